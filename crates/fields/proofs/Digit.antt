@@ -1,0 +1,37 @@
+-- Laws of digits and of the number that they spell.
+use Prim.Native.Nat.{ℕ, _+_, _-_, _*_, _<_, _≤_}
+use mathlib.Core.Path.{_≡_, refl}
+use mathlib.Core.Bool.{true, false}
+use mathlib.Core.List.{List, [], _∷_}
+use native.Mathlib.Omega.{arith}
+use lib.Dec.{leb}
+use borrow.Author.Tests.{le-leb, lt-leb, leb-true}
+use Rattle.logic.specs.Test.{_and_}
+use Rattle.logic.proofs.Tests.{and-left, and-right}
+use Rattle.fields.specs.Field.{digit0, digit9, isDigit, decimal}
+
+pub digit-within : (c : ℕ) → 48 ≤ c → c ≤ 57 → isDigit c ≡ true
+unfolding isDigit _and_
+digit-within c h k = rw (le-leb 48 c h, le-leb c 57 k)
+
+pub digit-below : (c : ℕ) → c < 48 → isDigit c ≡ false
+unfolding isDigit _and_
+digit-below c h = rw (lt-leb 48 c h)
+
+pub digit-above : (c : ℕ) → 57 < c → isDigit c ≡ false
+unfolding isDigit _and_
+digit-above c h = rw (le-leb 48 c (omega arith), lt-leb c 57 h)
+
+pub digit-low : (c : ℕ) → isDigit c ≡ true → 48 ≤ c
+unfolding isDigit
+digit-low c e = leb-true 48 c (and-left (leb 48 c) (leb c 57) e)
+
+pub digit-high : (c : ℕ) → isDigit c ≡ true → c ≤ 57
+unfolding isDigit
+digit-high c e = leb-true c 57 (and-right (leb 48 c) (leb c 57) e)
+
+-- further digits make no number smaller
+pub decimal-grows : (n : ℕ) (cs : List ℕ) → n ≤ decimal n cs
+unfolding decimal
+decimal-grows n [] = omega arith
+decimal-grows n (c ∷ cs) = omega (arith, decimal-grows (10 * n + (c - 48)) cs)

@@ -1,0 +1,4 @@
+pub mod Value
+pub mod Translation
+pub mod Function
+pub mod Gate
