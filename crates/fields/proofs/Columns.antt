@@ -38,7 +38,7 @@ columns-six l at h =
     (simp towards-suc)
 
 -- six columns are a right field if they are spaces and a numeral
-six-field : (l : List ℕ) (at : ℕ) → at + 6 ≤ length l → isFieldAt l at ≡ isNumeral (afterSpaces (six l at))
+pub six-field : (l : List ℕ) (at : ℕ) → at + 6 ≤ length l → isFieldAt l at ≡ isNumeral (afterSpaces (six l at))
 unfolding isField _and_
 six-field l at h = rw (columns-six l at h)
 

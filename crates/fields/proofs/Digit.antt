@@ -1,4 +1,4 @@
--- Laws of digits and of the number that they spell.
+-- Laws of digits, of the number that they spell, and of a numeral.
 use Prim.Native.Nat.{ℕ, _+_, _-_, _*_, _<_, _≤_}
 use mathlib.Core.Path.{_≡_, refl}
 use mathlib.Core.Bool.{true, false}
@@ -6,9 +6,9 @@ use mathlib.Core.List.{List, [], _∷_}
 use native.Mathlib.Omega.{arith}
 use lib.Dec.{leb}
 use borrow.Author.Tests.{le-leb, lt-leb, leb-true}
-use Rattle.logic.specs.Test.{_and_}
+use Rattle.logic.specs.Test.{_and_, every}
 use Rattle.logic.proofs.Tests.{and-left, and-right}
-use Rattle.fields.specs.Field.{digit0, digit9, isDigit, decimal}
+use Rattle.fields.specs.Field.{isDigit, decimal, noLeadingZero, isNumeral}
 
 pub digit-within : (c : ℕ) → 48 ≤ c → c ≤ 57 → isDigit c ≡ true
 unfolding isDigit _and_
@@ -35,3 +35,19 @@ pub decimal-grows : (n : ℕ) (cs : List ℕ) → n ≤ decimal n cs
 unfolding decimal
 decimal-grows n [] = omega arith
 decimal-grows n (c ∷ cs) = omega (arith, decimal-grows (10 * n + (c - 48)) cs)
+
+-- the three parts of a numeral
+module _ (ds : List ℕ) (h : isNumeral ds ≡ true) where
+  pub numeral-leading : noLeadingZero ds ≡ true
+  unfolding isNumeral
+  numeral-leading = and-left (noLeadingZero ds) (every isDigit ds and leb (decimal 0 ds) 65535) h
+
+  rest : every isDigit ds and leb (decimal 0 ds) 65535 ≡ true
+  unfolding isNumeral
+  rest = and-right (noLeadingZero ds) (every isDigit ds and leb (decimal 0 ds) 65535) h
+
+  pub numeral-digits : every isDigit ds ≡ true
+  numeral-digits = and-left (every isDigit ds) (leb (decimal 0 ds) 65535) rest
+
+  pub numeral-small : decimal 0 ds ≤ 65535
+  numeral-small = leb-true (decimal 0 ds) 65535 (and-right (every isDigit ds) (leb (decimal 0 ds) 65535) rest)

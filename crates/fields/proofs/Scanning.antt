@@ -13,7 +13,7 @@ use Rattle.fields.specs.Field.{space, digit0, isDigit, afterSpaces, deci
 use Rattle.fields.specs.Scan.{extended, scan, scans}
 use Rattle.fields.specs.declared.Scan.{Scan}
 use Rattle.fields.specs.declared.Scan.the-variants.{Blank, Digits, Bad}
-use Rattle.fields.proofs.Digit.{digit-within, digit-low, digit-high, decimal-grows}
+use Rattle.fields.proofs.Digit.{digit-low, digit-high, decimal-grows, numeral-leading, numeral-digits, numeral-small}
 
 -- the number that was found after the columns cs, from the number n on
 pub record Found (n : ℕ) (cs : List ℕ) (m : ℕ) : Type 0 where
@@ -101,7 +101,7 @@ not-leading c (d ∷ ds) h = rw (ne-eqb c 48 (λ (z : c ≡ 48). empty (h (omega
 
 -- spaces and then a numeral are read as its number
 pub scans-numeral : (cs : List ℕ) → isNumeral (afterSpaces cs) ≡ true → scans Blank cs ≡ Digits (number cs)
-unfolding number isNumeral afterSpaces scans scan noLeadingZero _and_
+unfolding number isNumeral afterSpaces scans scan noLeadingZero every _and_
 scans-numeral [] h = absurd (let z : _≡_ {A = ℕ} 0 1 = cc in omega arith)
 scans-numeral (c ∷ cs) h = go (eqb c 32) refl h (scans-numeral cs)
   where
@@ -116,19 +116,12 @@ scans-numeral (c ∷ cs) h = go (eqb c 32) refl h (scans-numeral cs)
         → scans (state b) cs ≡ Digits (decimal 0 (rest b))
     go true e q next = next q
     go false e q next =
-        let nz : noLeadingZero (c ∷ cs) ≡ true = and-left (noLeadingZero (c ∷ cs)) (every isDigit (c ∷ cs) and leb (decimal 0 (c ∷ cs)) 65535) q in
-        let both : every isDigit (c ∷ cs) and leb (decimal 0 (c ∷ cs)) 65535 ≡ true = and-right (noLeadingZero (c ∷ cs)) (every isDigit (c ∷ cs) and leb (decimal 0 (c ∷ cs)) 65535) q in
-        let ds : every isDigit (c ∷ cs) ≡ true = and-left (every isDigit (c ∷ cs)) (leb (decimal 0 (c ∷ cs)) 65535) both in
-        let small : leb (decimal 0 (c ∷ cs)) 65535 ≡ true = and-right (every isDigit (c ∷ cs)) (leb (decimal 0 (c ∷ cs)) 65535) both in
-        after nz ds (leb-true (decimal 0 (c ∷ cs)) 65535 small)
-      where
-        after : noLeadingZero (c ∷ cs) ≡ true → every isDigit (c ∷ cs) ≡ true → decimal 0 (c ∷ cs) ≤ 65535
-            → scans (if isDigit c then Digits (c - 48) else Bad) cs ≡ Digits (decimal 0 (c ∷ cs))
-        after nz ds l =
-            let d : isDigit c ≡ true = unfold every in and-left (isDigit c) (every isDigit cs) ds in
-            let f = first-digit c cs in
-            rw (d, f) (more-digits cs (c - 48) (leading c cs (digit-low c d) nz)
-            (unfold every in and-right (isDigit c) (every isDigit cs) ds) (omega arith))
+        let digits = numeral-digits (c ∷ cs) q in
+        let small = numeral-small (c ∷ cs) q in
+        let d : isDigit c ≡ true = and-left (isDigit c) (every isDigit cs) digits in
+        rw (d, first-digit c cs)
+        (more-digits cs (c - 48) (leading c cs (digit-low c d) (numeral-leading (c ∷ cs) q))
+        (and-right (isDigit c) (every isDigit cs) digits) (rw (first-digit c cs) at small))
 
 -- and a number is read in no other columns
 pub record Numeral (ds : List ℕ) (m : ℕ) : Type 0 where

@@ -1,7 +1,8 @@
 -- How the code reads a field, column by column: it mirrors private functions, and `readField` is what a caller reads.
-use Prim.Native.Nat.{ℕ, _+_, _-_, _*_}
+use Prim.Native.Nat.{ℕ, _+_, _-_, _*_, _%_}
 use mathlib.Core.List.{List, [], _∷_}
 use lib.Dec.{eqb, leb}
+use lib.ListN.{getD}
 use Rattle.logic.specs.Choice.{if_then_else_}
 use Rattle.fields.specs.Field.{space, digit0, isDigit}
 use Rattle.fields.specs.declared.Field.{Field}
@@ -29,3 +30,9 @@ abbrev pub fieldOf : Scan → ℕ → Field
 fieldOf Blank next = Misformed
 fieldOf (Digits n) next = Number n next
 fieldOf Bad next = Misformed
+
+-- a right field's number by the low halves of its last five bytes
+abbrev pub lowNumber : List ℕ → ℕ → ℕ
+lowNumber l at =
+    10000 * (getD l (at + 1) 0 % 16) + 1000 * (getD l (at + 2) 0 % 16)
+    + (100 * (getD l (at + 3) 0 % 16) + 10 * (getD l (at + 4) 0 % 16) + getD l (at + 5) 0 % 16)

@@ -2,14 +2,14 @@
 
 ghost use mathlib.Core.Path.{_≡_};
 ghost use mathlib.Core.Bool.{Bool, true, false};
-ghost use Prim.Native.Nat.{_+_, _*_, _<_, _≤_};
+ghost use Prim.Native.Nat.{_+_, _*_, _%_, _<_, _≤_};
 ghost use lib.ListN.{length};
 ghost use lib.Seq.{sets};
-ghost use Rattle.fields.specs.Field.{isDigit, digit0, numberAt};
+ghost use Rattle.fields.specs.Field.{isFieldAt, numberAt};
 ghost use Rattle.fields.specs.Line.{lineLength};
 ghost use Rattle.fields.specs.Text.{columnOf, fieldText, lineText};
 ghost use Rattle.fields.specs.Reading.{readField, readLine};
-ghost use Rattle.fields.specs.Scan.{extended, scan, fieldOf};
+ghost use Rattle.fields.specs.Scan.{extended, scan, fieldOf, lowNumber};
 
 // What stands at a place: a number with the place after it, or no right field.
 pub enum Field {
@@ -110,4 +110,95 @@ pub fn read_field(s: &[u8], at: usize) -> Field
     let d = scan_column(c, s[at + 3]);
     let e = scan_column(d, s[at + 4]);
     field_of(scan_column(e, s[at + 5]), at + 6)
+}
+
+// The line of `count` fields at a place: each field in turn, then byte 10.
+pub fn read_line(s: &[u8], at: usize, count: usize) -> Line
+    ensures { λ r. ⌜ r ≡ readLine (now (s .entry)) at count ⌝ }
+{
+    let mut place = at;
+    let mut k: usize = 0;
+    while k < count {
+        let Field::Number(_, next) = read_field(s, place) else {
+            return Line::Broken;
+        };
+        place = next;
+        k += 1;
+    }
+    if s.len() <= place {
+        return Line::Broken;
+    }
+    if s[place] == 10 {
+        return Line::Next(place + 1);
+    }
+    Line::Broken
+}
+
+// The low half of a byte: of a digit its value, of a space 0.
+fn low_half(c: u8) -> u32
+    ensures { λ r. ⌜ (r ≡ c % 16) × (r ≤ 15) ⌝ }
+{
+    (c % 16) as u32
+}
+
+// What the low halves of a field's last five columns spell.
+fn low_number(s: &[u8], at: usize) -> u32
+    requires { ⌜ at + 6 ≤ length (now s) ⌝ }
+    ensures { λ r. ⌜ r ≡ lowNumber (now (s .entry)) at ⌝ }
+{
+    let high = 10000 * low_half(s[at + 1]) + 1000 * low_half(s[at + 2]);
+    let low = 100 * low_half(s[at + 3]) + 10 * low_half(s[at + 4]) + low_half(s[at + 5]);
+    high + low
+}
+
+// The number of a field that was read before and is right, so that nothing is judged again.
+pub fn number_at(s: &[u8], at: usize) -> u16
+    requires { ⌜ isFieldAt (now s) at ≡ true ⌝ }
+    ensures { λ r. ⌜ r ≡ numberAt (now (s .entry)) at ⌝ }
+{
+    low_number(s, at) as u16
+}
+
+// The byte of n's column of the given weight.
+fn column(n: u16, weight: u16) -> u8
+    requires { ⌜ 0 < weight ⌝ }
+    ensures { λ r. ⌜ r ≡ columnOf n weight ⌝ }
+{
+    if weight <= n {
+        return (48 + n / weight % 10) as u8;
+    }
+    if weight == 1 {
+        return 48;
+    }
+    32
+}
+
+// n's field, written at a place. The column of weight 100000 is above every number.
+pub fn write_field(out: &mut [u8], at: usize, n: u16)
+    requires { ⌜ at + 6 ≤ length (now out) ⌝ }
+    ensures { λ _. ⌜ now (out .exit) ≡ sets (now (out .entry)) at (fieldText n) ⌝ }
+{
+    out[at] = 32;
+    out[at + 1] = column(n, 10000);
+    out[at + 2] = column(n, 1000);
+    out[at + 3] = column(n, 100);
+    out[at + 4] = column(n, 10);
+    out[at + 5] = column(n, 1);
+}
+
+// The line of some numbers, written at a place; the place after it.
+pub fn write_line(out: &mut [u8], at: usize, numbers: &[u16]) -> usize
+    requires { ⌜ at + lineLength (length (now numbers)) ≤ length (now out) ⌝ }
+    ensures { λ r. ⌜ r ≡ at + lineLength (length (now (numbers .entry))) ⌝ }
+    ensures { λ _. ⌜ now (out .exit) ≡ sets (now (out .entry)) at (lineText (now (numbers .entry))) ⌝ }
+{
+    let mut place = at;
+    let mut k = 0;
+    while k < numbers.len() {
+        write_field(out, place, numbers[k]);
+        place += 6;
+        k += 1;
+    }
+    out[place] = 10;
+    place + 1
 }

@@ -1,11 +1,13 @@
 -- Laws of the tests of `specs/Test.antt`.
 use Prim.Native.Nat.{ℕ, zero, suc, _+_, _<_, _≤_}
-use mathlib.Core.Path.{_≡_, refl, ap}
-use mathlib.Core.Bool.{Bool, true, false}
+use mathlib.Core.Path.{_≡_, refl, sym, subst, _∙_}
+use mathlib.Core.Bool.{Bool, true, false, true≢false}
 use mathlib.Core.List.{List, [], _∷_}
 use native.Mathlib.Omega.{arith}
+use native.Mathlib.Numerals.{add-one}
+use lib.Dec.{eqb}
 use lib.ListN.{length}
-use borrow.Author.Tests.{eq-eqb, ne-eqb, lt-ltb, le-ltb, le-leb, lt-leb}
+use borrow.Author.Tests.{eqb-true, eqb-false, eq-eqb, ne-eqb, lt-ltb, le-ltb, le-leb, lt-leb}
 use Rattle.logic.specs.Test.{_and_, _or_, some, every, all, one, count}
 
 -- a test's value from the fact that a branch leaves
@@ -74,3 +76,36 @@ module _ {A : Type 0} (p : A → Bool) where
           → ((count p xs ≡ length xs → ⊥) → every p xs ≡ false) → b and every p xs ≡ false
       go true h k = k (λ (e : count p xs ≡ length xs). h (omega arith))
       go false h k = refl
+
+module _ (p : ℕ → Bool) where
+  -- one number more
+  pub all-more : (n : ℕ) → all n p ≡ true → p n ≡ true → all (n + 1) p ≡ true
+  unfolding all
+  all-more n h k = rw add-one (and-true (all n p) (p n) h k)
+
+  -- the test at each number below n, and back
+  pub all-at : (n : ℕ) → all n p ≡ true → (k : ℕ) → k < n → p k ≡ true
+  unfolding all
+  all-at zero h k l = absurd (omega arith)
+  all-at (suc n) h k l =
+      go (all-at n (and-left (all n p) (p n) h)) (and-right (all n p) (p n) h) (eqb k n) refl
+    where
+      go : ((k : ℕ) → k < n → p k ≡ true) → p n ≡ true → (b : Bool) → eqb k n ≡ b → p k ≡ true
+      go below here true e = subst (λ (m : ℕ). p m ≡ true) (sym (eqb-true k n e)) here
+      go below here false e = let ne = eqb-false k n e in below k (under ne)
+        where
+          under : (k ≡ n → ⊥) → k < n
+          under ne = omega arith
+
+  pub all-true : (n : ℕ) → ((k : ℕ) → k < n → p k ≡ true) → all n p ≡ true
+  unfolding all
+  all-true zero h = refl
+  all-true (suc n) h = and-true (all n p) (p n) (all-true n (λ k l. h k (omega arith))) (h n (omega arith))
+
+  -- where the test fails at one, it fails at all
+  pub all-fails : (n k : ℕ) → k < n → p k ≡ false → all n p ≡ false
+  all-fails n k l e = go (all n p) refl
+    where
+      go : (b : Bool) → all n p ≡ b → b ≡ false
+      go false q = refl
+      go true q = absurd (true≢false (sym (all-at n q k l) ∙ e))

@@ -1,0 +1,80 @@
+use Prim.Native.Nat.{ℕ, _≤_, _-_, _+_, _*_}
+use mathlib.Core.Path.{_≡_, sym, _∙_}
+use mathlib.Core.Bool.{true}
+use native.Mathlib.Omega.{arith}
+use Rattle.logic.specs.Test.{all}
+use Rattle.fields.specs.Field.{isFieldAt}
+use Rattle.fields.proofs.Lines.{line-stops, line-goes-on, line-right, line-unended, line-cut}
+use borrow.Author.Needs.{needs}
+use Rattle.fields.proofs.read_line.Statement.{statement}
+use Rattle.fields.proofs.read_line.Tie as tie
+
+abbrev Inv-loop : tie.InvT-loop
+Inv-loop s at count place₀ k₀ place k =
+    (k ≤ count) × (place ≡ at + 6 * k) × (all k (λ j. isFieldAt s (at + 6 * j)) ≡ true)
+
+abbrev μ-loop : tie.MeasureT-loop
+μ-loop s at count place₀ k₀ place k = count - k
+
+loop-holds : tie.Need-loop-holds Inv-loop μ-loop
+unfolding all
+loop-holds c = search needs
+
+read-field-requires : tie.Need-read-field-requires Inv-loop μ-loop
+read-field-requires c κs = search needs
+
+enum-known-next : tie.Need-enum-known-next Inv-loop μ-loop
+enum-known-next c = search needs
+
+enum-told : tie.Need-enum-told Inv-loop μ-loop
+enum-told c = search needs
+
+returns : tie.Need-returns Inv-loop μ-loop
+returns c = sym (line-stops _ _ _ _ (c .before .before .before .before .loop .inv .1) _ (c .before .before .before .loop-test .taken) (cc))
+
+add-k : tie.Need-add-k Inv-loop μ-loop
+add-k c = search needs
+
+loop-less : tie.Need-loop-less Inv-loop μ-loop
+loop-less c = search needs
+
+loop-again : tie.Need-loop-again Inv-loop μ-loop
+loop-again c =
+    let i = c .before .before .before .before .before .loop .inv in
+    let next = line-goes-on _ _ _ _ (i .1) _ _ (i .2) (sym (c .before .before .before .read-field .ensures) ∙ c .before .next .given .1) in
+    (omega arith, next .0, next .1)
+
+returns-2 : tie.Need-returns-2 Inv-loop μ-loop
+returns-2 c = let i = c .before .before .loop .inv in sym (line-cut _ _ _ _ (i .1) _ (i .0) (c .before .loop-test .left) (i .2) (c .if1 .taken))
+
+shared-slice-read-if2 : tie.Need-shared-slice-read-if2 Inv-loop μ-loop
+shared-slice-read-if2 c = search needs
+
+add-t13 : tie.Need-add-t13 Inv-loop μ-loop
+add-t13 c = search needs
+
+returns-3 : tie.Need-returns-3 Inv-loop μ-loop
+returns-3 c = let i = c .before .before .before .before .loop .inv in sym (line-right _ _ _ _ (i .1) _ (i .0) (c .before .before .before .loop-test .left) (i .2) (c .if2 .taken))
+
+returns-4 : tie.Need-returns-4 Inv-loop μ-loop
+returns-4 c = let i = c .before .before .before .before .loop .inv in sym (line-unended _ _ _ _ (i .1) _ (i .0) (c .before .before .before .loop-test .left) (i .2) (c .if2 .left))
+
+pub read-line-spec : {M : Type 1} → statement M
+read-line-spec =
+    tie.close
+    (tie.spec
+    Inv-loop
+    μ-loop
+    loop-holds
+    read-field-requires
+    enum-known-next
+    enum-told
+    returns
+    add-k
+    loop-less
+    loop-again
+    returns-2
+    shared-slice-read-if2
+    add-t13
+    returns-3
+    returns-4)
