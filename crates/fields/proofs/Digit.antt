@@ -7,7 +7,7 @@ use native.Mathlib.Omega.{arith}
 use lib.Dec.{leb}
 use borrow.Author.Tests.{le-leb, lt-leb, leb-true}
 use Rattle.logic.specs.Test.{_and_, every}
-use Rattle.logic.proofs.Tests.{and-left, and-right}
+use Rattle.logic.proofs.Tests.{and-left, and-right, and-true}
 use Rattle.fields.specs.Field.{isDigit, decimal, noLeadingZero, isNumeral}
 
 pub digit-within : (c : ℕ) → 48 ≤ c → c ≤ 57 → isDigit c ≡ true
@@ -51,3 +51,9 @@ module _ (ds : List ℕ) (h : isNumeral ds ≡ true) where
 
   pub numeral-small : decimal 0 ds ≤ 65535
   numeral-small = leb-true (decimal 0 ds) 65535 (and-right (every isDigit ds) (leb (decimal 0 ds) 65535) rest)
+
+pub numeral-right : (ds : List ℕ) → noLeadingZero ds ≡ true → every isDigit ds ≡ true → decimal 0 ds ≤ 65535 → isNumeral ds ≡ true
+unfolding isNumeral
+numeral-right ds h k l =
+    and-true (noLeadingZero ds) (every isDigit ds and leb (decimal 0 ds) 65535) h
+    (and-true (every isDigit ds) (leb (decimal 0 ds) 65535) k (le-leb (decimal 0 ds) 65535 l))

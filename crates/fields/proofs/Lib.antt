@@ -4,3 +4,5 @@ pub mod Columns
 pub mod Lines
 pub mod LowHalf
 pub mod Writing
+pub mod Spelling
+pub mod RoundTrip

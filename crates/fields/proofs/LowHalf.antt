@@ -37,6 +37,7 @@ low-numeral (c ∷ cs) h = go (eqb c 32) refl h (low-numeral cs)
   where
     rest : Bool → List ℕ
     rest b = if b then afterSpaces cs else c ∷ cs
+
     go : (b : Bool) → eqb c 32 ≡ b → isNumeral (rest b) ≡ true
         → (isNumeral (afterSpaces cs) ≡ true → decimal 0 (afterSpaces cs) ≡ low 0 cs)
         → decimal 0 (rest b) ≡ low (10 * 0 + c % 16) cs

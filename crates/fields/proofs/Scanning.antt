@@ -13,7 +13,7 @@ use Rattle.fields.specs.Field.{space, digit0, isDigit, afterSpaces, deci
 use Rattle.fields.specs.Scan.{extended, scan, scans}
 use Rattle.fields.specs.declared.Scan.{Scan}
 use Rattle.fields.specs.declared.Scan.the-variants.{Blank, Digits, Bad}
-use Rattle.fields.proofs.Digit.{digit-low, digit-high, decimal-grows, numeral-leading, numeral-digits, numeral-small}
+use Rattle.fields.proofs.Digit.{digit-low, digit-high, decimal-grows, numeral-leading, numeral-digits, numeral-small, numeral-right}
 
 -- the number that was found after the columns cs, from the number n on
 pub record Found (n : ℕ) (cs : List ℕ) (m : ℕ) : Type 0 where
@@ -129,16 +129,13 @@ pub record Numeral (ds : List ℕ) (m : ℕ) : Type 0 where
   pub is : decimal 0 ds ≡ m
 
 numeral-found : (c : ℕ) (cs : List ℕ) (m : ℕ) → isDigit c ≡ true → Found (c - 48) cs m → Numeral (c ∷ cs) m
-unfolding isNumeral every
+unfolding every
 numeral-found c cs m d f =
     let e : decimal 0 (c ∷ cs) ≡ m = first-digit c cs ∙ f .is in
     record {
       form =
-          and-true (noLeadingZero (c ∷ cs)) (every isDigit (c ∷ cs) and leb (decimal 0 (c ∷ cs)) 65535)
-          (not-leading c cs (f .alone))
-          (and-true (every isDigit (c ∷ cs)) (leb (decimal 0 (c ∷ cs)) 65535)
-          (and-true (isDigit c) (every isDigit cs) d (f .digits))
-          (le-leb (decimal 0 (c ∷ cs)) 65535 (subst (λ (k : ℕ). k ≤ 65535) (sym e) (f .small))));
+          numeral-right (c ∷ cs) (not-leading c cs (f .alone)) (and-true (isDigit c) (every isDigit cs) d (f .digits))
+          (subst (λ (k : ℕ). k ≤ 65535) (sym e) (f .small));
       is = e;
     }
 

@@ -59,6 +59,7 @@ module _ (l numbers : List ℕ) (at : ℕ) where
     where
       n : ℕ
       n = getD numbers k 0
+
       text : flatMap fieldText (take k numbers) ++ fieldText n ≡ flatMap fieldText (take (k + 1) numbers)
       text = rw (add-one, take-suc numbers k 0, flatMap-append fieldText (take k numbers) (n ∷ []), append-nil (fieldText n))
 

@@ -40,9 +40,12 @@ loop-less c = search needs
 loop-again : tie.Need-loop-again Inv-loop μ-loop
 loop-again c =
     let i = c .before .before .before .before .before .before .loop .inv in
-    let w = c .before .before .write-field in
-    (omega arith, omega arith, w .kept .0 ∙ i .2,
-      w .ensures ∙ fields-more _ _ _ _ _ _ (i .3) (c .before .before .before .before .before .loop-test .taken) (i .1))
+    let w = c .before .before .write-field in (
+      omega arith,
+      omega arith,
+      w .kept .0 ∙ i .2,
+      w .ensures ∙ fields-more _ _ _ _ _ _ (i .3) (c .before .before .before .before .before .loop-test .taken) (i .1),
+    )
 
 slice-write-out : tie.Need-slice-write-out Inv-loop μ-loop
 slice-write-out c = search needs
