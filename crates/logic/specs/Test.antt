@@ -28,6 +28,16 @@ unfoldable pub all : ℕ → (ℕ → Bool) → Bool
 all zero p = true
 all (suc n) p = all n p and p n
 
+-- the test passes at some number below n
+unfoldable pub any : ℕ → (ℕ → Bool) → Bool
+any zero p = false
+any (suc n) p = any n p or p n
+
+-- the sum of f k over the numbers k below n
+unfoldable pub total : ℕ → (ℕ → ℕ) → ℕ
+total zero f = 0
+total (suc n) f = total n f + f n
+
 -- 1 where the test passes, else 0
 abbrev pub one : Bool → ℕ
 one true = 1

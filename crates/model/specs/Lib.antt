@@ -1,0 +1,13 @@
+pub mod Refusal
+pub mod Files
+pub mod Network
+pub mod Netlist
+pub mod Value
+pub mod Module
+pub mod Schedule
+pub mod Stimulus
+pub mod Acceptance
+pub mod Machine
+pub mod Halves
+pub mod Session
+pub mod Listing
