@@ -11,3 +11,4 @@ pub mod Machine
 pub mod Halves
 pub mod Session
 pub mod Listing
+pub mod Demands

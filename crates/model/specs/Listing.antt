@@ -21,26 +21,33 @@ unfoldable pub joined : ℕ → (ℕ → List ℕ) → List ℕ
 joined zero f = []
 joined (suc n) f = joined n f ++ f n
 
--- "All signals at time 0"
-unfoldable pub listedFirst : Files → List ℕ
-listedFirst files = joined (networkOf files .size) (λ k. lineText (0 ∷ suc k ∷ valueAt files 0 (suc k) ∷ []))
+-- the listing of a table of values by time and signal, for the signals 1 to n and the times 0 to end
+module _ (n end : ℕ) (table : ℕ → ℕ → ℕ) where
+  -- "All signals at time 0"
+  unfoldable pub listedFirst : List ℕ
+  listedFirst = joined n (λ k. lineText (0 ∷ suc k ∷ table 0 (suc k) ∷ []))
 
--- "then each whose value differs from the time before, by time and signal"
-unfoldable pub listedChange : Files → ℕ → ℕ → List ℕ
-listedChange files t s =
-    if eqb (valueAt files (suc t) s) (valueAt files t s) then [] else lineText (suc t ∷ s ∷ valueAt files (suc t) s ∷ [])
+  -- "then each whose value differs from the time before, by time and signal"
+  unfoldable pub listedChange : ℕ → ℕ → List ℕ
+  listedChange t s = if eqb (table (suc t) s) (table t s) then [] else lineText (suc t ∷ s ∷ table (suc t) s ∷ [])
 
-unfoldable pub listedCycle : Files → ℕ → List ℕ
-listedCycle files t = joined (networkOf files .size) (λ k. listedChange files t (suc k))
+  unfoldable pub listedCycle : ℕ → List ℕ
+  listedCycle t = joined n (λ k. listedChange t (suc k))
 
--- "last line T, 0, 0"
+  -- "last line T, 0, 0"
+  unfoldable pub listingOf : List ℕ
+  listingOf = listedFirst ++ joined end listedCycle ++ lineText (end ∷ 0 ∷ 0 ∷ [])
+
 unfoldable pub listing : Files → List ℕ
-listing files = listedFirst files ++ joined (endTime (files .STIM)) (listedCycle files) ++ lineText (endTime (files .STIM) ∷ 0 ∷ 0 ∷ [])
+listing files = listingOf (networkOf files .size) (endTime (files .STIM)) (valueAt files)
 
 -- "On a file refusal the program prints one line of two fields, number and returned value, and nothing else."
+unfoldable pub refusalLine : ℕ → ℕ → List ℕ
+refusalLine number returned = lineText (number ∷ returned ∷ [])
+
 unfoldable pub printedFor : Files → Check → List ℕ
 printedFor files pass = listing files
-printedFor files (fail number returned) = lineText (number ∷ returned ∷ [])
+printedFor files (fail number returned) = refusalLine number returned
 
 unfoldable pub printed : ℕ → Files → List ℕ
 printed limit files = printedFor files (fileCheck limit files)

@@ -8,6 +8,8 @@ use Rattle.logic.specs.Choice.{if_then_else_}
 use Rattle.model.specs.Refusal.{Check, pass, fail, first, unless}
 use Rattle.model.specs.Network.{Network, input, isSignal}
 use Rattle.model.specs.Value.{VAL}
+use Rattle.model.specs.Module.{Module}
+use Rattle.model.specs.Machine.{Memory, cycle}
 
 -- What keeps the signals' values: it makes a cycle from the inputs' values, and tells the value of a signal.
 pub record Engine : Type 1 where
@@ -19,6 +21,11 @@ pub record Engine : Type 1 where
 -- the rows."
 abbrev pub plain : Network → (ℕ → ℕ) → Engine
 plain n given = record { State = List (ℕ → ℕ); tick = λ row rows. row ∷ rows; value = VAL n given }
+
+-- the lockstep machine: it reads a signal at its place, which processor and slot give
+abbrev pub lockstep : Network → Module → (ℕ → ℕ) → (ℕ → ℕ) → Engine
+lockstep n m processor slot =
+    record { State = Memory; tick = cycle n m; value = λ w s. w .earlierLocal (processor s) (slot s) }
 
 -- "the one watch (signal, mask 0 to 15, bit v of weight 2^v for value v ..)"
 pub record Watch : Type 0 where
@@ -137,3 +144,25 @@ cyclesDone (refused number returned) = 0
 cyclesDone done = 0
 cyclesDone (value v) = 0
 cyclesDone (ran count stopped) = count
+
+-- The plain session after a list of calls, the last first.
+unfoldable pub plainAfter : Lengths → Network → (ℕ → ℕ) → List Lent → Outcome (List (ℕ → ℕ))
+plainAfter fixed n given [] = record { answer = done; head = fresh given; state = [] }
+plainAfter fixed n given (c ∷ before) =
+    let s = plainAfter fixed n given before in
+    outcome fixed n (plain n given) (s .head) (s .state) c
+
+-- the value that a call gives to s in hand, where it held old: an accepted setting of s replaces it, and "A setting that is refused
+-- sets nothing."
+unfoldable pub setBy : Call → Check → ℕ → ℕ → ℕ
+setBy (set x v) pass s old = if eqb s x then v else old
+setBy (set x v) (fail number returned) s old = old
+setBy (watch x mask) check s old = old
+setBy (read x) check s old = old
+setBy (run k) check s old = old
+
+-- each input "as last set" by a list of calls, the last first, "or as at cycle 0 if not set by then"
+unfoldable pub lastSet : Lengths → Network → (ℕ → ℕ) → List Lent → ℕ → ℕ
+lastSet fixed n given [] s = given s
+lastSet fixed n given (c ∷ before) s =
+    setBy (c .call) (lentCheck fixed n (plainAfter fixed n given before .head .finished) c) s (lastSet fixed n given before s)
