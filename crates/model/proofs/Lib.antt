@@ -1,5 +1,11 @@
 pub mod Conditions
 pub mod Refusals
+pub mod RightLine
+pub mod Placements
+pub mod Accepted
+pub mod Operands
+pub mod Machine
+pub mod Halves
 pub mod Session
 pub mod Traces
 pub mod Inputs
