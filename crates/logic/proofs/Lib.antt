@@ -1,2 +1,4 @@
 pub mod Tests
+pub mod Any
 pub mod Totals
+pub mod Pigeon

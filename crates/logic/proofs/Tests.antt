@@ -2,6 +2,7 @@
 use Prim.Native.Nat.{ℕ, zero, suc, _+_, _<_, _≤_}
 use mathlib.Core.Path.{_≡_, refl, sym, subst, _∙_}
 use mathlib.Core.Bool.{Bool, true, false, true≢false}
+use mathlib.Core.Logic.{_⊎_, inl, inr}
 use mathlib.Core.List.{List, [], _∷_}
 use native.Mathlib.Omega.{arith}
 use native.Mathlib.Numerals.{add-one}
@@ -26,6 +27,26 @@ pub and-right : (a b : Bool) → a and b ≡ true → b ≡ true
 unfolding _and_
 and-right true b p = p
 and-right false b p = elim b [ true ↦ refl | false ↦ p ]
+
+pub or-cases : (a b : Bool) → a or b ≡ true → (a ≡ true) ⊎ (b ≡ true)
+unfolding _or_
+or-cases true b e = inl refl
+or-cases false b e = inr e
+
+pub or-left : (a b : Bool) → a ≡ true → a or b ≡ true
+unfolding _or_
+or-left a b e = rw e
+
+pub or-right : (a b : Bool) → b ≡ true → a or b ≡ true
+unfolding _or_
+or-right true b e = refl
+or-right false b e = e
+
+-- the second passes where the first does not
+pub or-otherwise : (a b : Bool) → a or b ≡ true → (a ≡ true → ⊥) → b ≡ true
+unfolding _or_
+or-otherwise true b p d = absurd (d refl)
+or-otherwise false b p d = p
 
 module _ {A : Type 0} (p : A → Bool) where
   pub count-length : (xs : List A) → count p xs ≤ length xs

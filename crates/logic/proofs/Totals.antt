@@ -1,22 +1,10 @@
--- Laws of `total`: the sum is 0 just where every term is, and 1 just where one term is 1 and all others are 0. Also the two ways in which
--- an `_or_` passes.
+-- Laws of `total`: the sum is 0 just where every term is, and 1 just where one term is 1 and all others are 0.
 use Prim.Native.Nat.{ℕ, zero, suc, _+_, _<_, _≤_}
 use mathlib.Core.Path.{_≡_, refl}
 use mathlib.Core.Bool.{Bool, true, false}
-use mathlib.Core.Logic.{_⊎_, inl, inr}
 use native.Mathlib.Omega.{arith}
 use native.Mathlib.Decide.{ℕ-discrete}
-use Rattle.logic.specs.Test.{_or_, one, total}
-
-pub or-cases : (a b : Bool) → a or b ≡ true → (a ≡ true) ⊎ (b ≡ true)
-unfolding _or_
-or-cases true b p = inl refl
-or-cases false b p = inr p
-
-pub or-right : (a b : Bool) → a or b ≡ true → (a ≡ true → ⊥) → b ≡ true
-unfolding _or_
-or-right true b p d = absurd (d refl)
-or-right false b p d = p
+use Rattle.logic.specs.Test.{one, total}
 
 pub one-true : (b : Bool) → one b ≡ 1 → b ≡ true
 one-true true e = refl

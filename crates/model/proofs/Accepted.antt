@@ -14,8 +14,7 @@ use lib.ListN.{length}
 use borrow.Author.Tests.{eqb-true, leb-true, ltb-true, not-true, eqb-false, le-leb}
 use Rattle.logic.specs.Test.{_and_, _or_}
 use Rattle.logic.specs.Choice.{if_then_else_}
-use Rattle.logic.proofs.Tests.{and-left, and-right, all-at}
-use Rattle.logic.proofs.Totals.{or-cases, or-right}
+use Rattle.logic.proofs.Tests.{and-left, and-right, all-at, or-cases, or-otherwise}
 use Rattle.gates.specs.Translation.{isTranslation, isConstant}
 use Rattle.gates.specs.Function.{isFunction}
 use Rattle.fields.specs.Line.{isLineAt}
@@ -56,7 +55,7 @@ within : {a x b : ℕ} → leb a x and leb x b ≡ true → (a ≤ x) × (x ≤ 
 within h = (leb-true _ _ (and-left _ _ h), leb-true _ _ (and-right _ _ h))
 
 implied : {x y : ℕ} {b : Bool} → x ≡ y → not (eqb x y) or b ≡ true → b ≡ true
-implied e h = or-right _ _ h (λ d. eqb-false _ _ (not-true _ d) e)
+implied e h = or-otherwise _ _ h (λ d. eqb-false _ _ (not-true _ d) e)
 
 -- NET
 
@@ -115,7 +114,7 @@ module _ (net : List ℕ) (s : ℕ) (line : isLineAt net (netLine s) 12 ≡ true
       gate e = ⊎-elim (λ (q : netField net s 0 ≡ unitDelay). omega arith) (λ (q : netField net s 0 ≡ rankOrder). omega arith) kind
 
       source : (j : ℕ) → j < 4 → sourceRight net s j ≡ true
-      source = all-at _ 4 (or-right _ _ right (λ e. gate (eqb-true _ _ e)))
+      source = all-at _ 4 (or-otherwise _ _ right (λ e. gate (eqb-true _ _ e)))
 
 module _ (limit : ℕ) (net : List ℕ) (accepted : netCheck limit net ≡ pass) where
   net-header : netHeader limit net ≡ pass
@@ -316,7 +315,7 @@ given-right n stim index line end h =
       signal = record { low = signal .0; high = signal .1 };
       value = leb-true _ _ (and-left _ _ rest);
       rises = and-right _ _ rest;
-      later = λ d. eqb-true _ _ (or-right _ _ (unless-true _ _ _ (first-right _ _ h)) (λ z. d (eqb-true _ _ z)));
+      later = λ d. eqb-true _ _ (or-otherwise _ _ (unless-true _ _ _ (first-right _ _ h)) (λ z. d (eqb-true _ _ z)));
     }
 
 end-right : (stim : List ℕ) (index : ℕ) → isLineAt stim (stimLine index) 3 ≡ true → isEnd stim index ≡ true → stimEnd stim index ≡ pass

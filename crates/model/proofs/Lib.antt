@@ -2,11 +2,15 @@ pub mod Conditions
 pub mod Refusals
 pub mod RightLine
 pub mod Placements
+pub mod Chains
+pub mod Value
 pub mod Accepted
 pub mod Operands
 pub mod Machine
 pub mod Halves
 pub mod Session
+pub mod Keeping
 pub mod Traces
 pub mod Inputs
+pub mod Demands
 pub mod Trials

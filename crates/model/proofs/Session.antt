@@ -6,23 +6,14 @@ use mathlib.Core.Bool.{Bool, true, false}
 use mathlib.Core.List.{List, [], _∷_}
 use native.Mathlib.Omega.{arith}
 use lib.Dec.{eqb, leb}
-use borrow.Author.Tests.{leb-true}
 use Rattle.logic.specs.Test.{_and_}
 use Rattle.logic.specs.Choice.{if_then_else_}
-use Rattle.logic.proofs.Tests.{and-left, and-right}
 use Rattle.model.specs.Refusal.{Check, pass, fail, first, unless}
 use Rattle.model.specs.Network.{Network, Signal, input, isSignal}
 use Rattle.model.specs.Session.{Engine, Watch, watched, Head, Call, set, watch, read, run, Lengths, Lent, Answer, done, value, ran, refused, Run, unlessStopped, runs, ticks, replaced, Outcome, sameLengths, callCheck, lentCheck, running, perform, meet, outcome}
+use Rattle.model.proofs.Chains.{signal-true}
+use Rattle.model.proofs.Value.{SameInputs}
 use Rattle.model.proofs.Refusals.{first-left, first-right, unless-true}
-
-pub is-signal : (n : Network) (s : ℕ) → isSignal n s ≡ true → Signal n s
-unfolding isSignal
-is-signal n s h =
-    record { low = leb-true 1 s (and-left (leb 1 s) (leb s (n .size)) h); high = leb-true s (n .size) (and-right (leb 1 s) (leb s (n .size)) h) }
-
--- values that agree on the inputs
-abbrev pub SameInputs : Network → (ℕ → ℕ) → (ℕ → ℕ) → Type 0
-SameInputs n a b = (s : ℕ) → Signal n s → n .kind s ≡ input → a s ≡ b s
 
 -- heads that agree but for the values in hand of gates, which nothing reads
 pub record Like (n : Network) (g h : Head) : Type 0 where
@@ -93,10 +84,10 @@ module _ (fixed : Lengths) (n : Network) (E F : Engine) (K : KeepStep n E F) whe
         answer = refl;
         head = record { finished = l .finished; hand = l .hand; watch = refl };
         state = r;
-        watching = is-signal n s (unless-true (isSignal n s) 41 s (first-left (unless (isSignal n s) 41 s) (unless (leb mask 15) 42 mask) t));
+        watching = signal-true n s (unless-true (isSignal n s) 41 s (first-left (unless (isSignal n s) 41 s) (unless (leb mask 15) 42 mask) t));
       }
   perform-alike g h x y (read s) t l r a =
-      record { answer = ap value (K .same x y r s (is-signal n s (unless-true (isSignal n s) 41 s t))); head = l; state = r; watching = a }
+      record { answer = ap value (K .same x y r s (signal-true n s (unless-true (isSignal n s) 41 s t))); head = l; state = r; watching = a }
   perform-alike g h x y (run k) t l r a =
       let e = runs-alike (E .tick (g .hand)) (F .tick (h .hand)) (λ z. watched (g .watch .mask) (E .value z (g .watch .signal)))
       (λ z. watched (h .watch .mask) (F .value z (h .watch .signal))) (K .R) (K .step (g .hand) (h .hand) (l .hand)) together k x y r in

@@ -1,0 +1,152 @@
+-- Demands 2 and 3 for accepted files. Demand 3 is for any buffers whose calls meet their contracts (`Traces`), and here for the session
+-- over the machine itself, from the opening, by folding its outcomes over the list of calls.
+use Prim.Native.Nat.{ℕ, zero, suc, _≤_}
+use mathlib.Core.Path.{_≡_, refl, sym, _∙_, ap}
+use mathlib.Core.List.{List, [], _∷_, _++_}
+use native.Mathlib.Omega.{arith}
+use lib.Dec.{eqb}
+use Rattle.logic.specs.Choice.{if_then_else_}
+use Rattle.fields.specs.Text.{lineText}
+use Rattle.model.specs.Refusal.{Check, pass, fail, first}
+use Rattle.model.specs.Files.{Files}
+use Rattle.model.specs.Network.{Network, Signal}
+use Rattle.model.specs.Netlist.{network, netHeader, netSignal, netSurplus, netChains, netCheck, netSize}
+use Rattle.model.specs.Value.{start, Follows, VAL}
+use Rattle.model.specs.Module.{Module, At}
+use Rattle.model.specs.Machine.{Memory, opening, after}
+use Rattle.model.specs.Stimulus.{held, endTime}
+use Rattle.model.specs.Acceptance.{networkOf, scheduleOf, givenOf, fileCheck, Accepted}
+use Rattle.model.specs.Session.{lockstep, Head, fresh, Lengths, Lent, Answer, Outcome, outcome}
+use Rattle.model.specs.Listing.{valueAt, joined, listedFirst, listedChange, listedCycle, listingOf, listing, printedFor, printed}
+use Rattle.model.specs.Demands.{Demand2, Places, Working, Trace, end, next, Demand3}
+use Rattle.model.proofs.Refusals.{first-left, first-right}
+use Rattle.model.proofs.Conditions.{Formed, Acyclic, Scheduled}
+use Rattle.model.proofs.Chains.{chains-pass}
+use Rattle.model.proofs.Value.{VAL-follows, VAL-unique}
+use Rattle.model.proofs.Accepted.{net-accepted, mod-accepted, net-formed, net-size, mod-scheduled}
+use Rattle.model.proofs.Machine.{Near, near-refl}
+use Rattle.model.proofs.Keeping.{Kept, kept-places, kept-near, kept-opening, machine-holds-VAL, keeps}
+use Rattle.model.proofs.Session.{Like}
+use Rattle.model.proofs.Traces.{Met, InStep, demand-3}
+
+net-acyclic : (limit : ℕ) (net : List ℕ) → netCheck limit net ≡ pass → Acyclic (network net)
+unfolding netCheck
+net-acyclic limit net h = chains-pass net (first-right (netSurplus net) (netChains net) (first-right _ _ (first-right _ _ h)))
+
+-- a listing depends on the values of the signals alone
+joined-same : (n : ℕ) (f g : ℕ → List ℕ) → ((k : ℕ) → suc k ≤ n → f k ≡ g k) → joined n f ≡ joined n g
+unfolding joined
+joined-same zero f g h = refl
+joined-same (suc n) f g h = rw (joined-same n f g (λ k l. h k (omega arith)), h n (omega arith))
+
+module _ (n end : ℕ) (a b : ℕ → ℕ → ℕ) (same : (t s : ℕ) → 1 ≤ s → s ≤ n → a t s ≡ b t s) where
+  change-same : (t s : ℕ) → 1 ≤ s → s ≤ n → listedChange n end a t s ≡ listedChange n end b t s
+  unfolding listedChange
+  change-same t s l h = rw (same t s l h, same (suc t) s l h)
+
+  listing-same : listingOf n end a ≡ listingOf n end b
+  unfolding listingOf listedFirst listedCycle
+  listing-same =
+      rw (
+        joined-same n (λ k. lineText (0 ∷ suc k ∷ a 0 (suc k) ∷ [])) (λ k. lineText (0 ∷ suc k ∷ b 0 (suc k) ∷ []))
+            (λ k l. ap (λ (v : ℕ). lineText (0 ∷ suc k ∷ v ∷ [])) (same 0 (suc k) (omega arith) l)),
+        joined-same end (listedCycle n end a) (listedCycle n end b)
+            (λ t l. joined-same n (λ k. listedChange n end a t (suc k)) (λ k. listedChange n end b t (suc k)) (λ k h. change-same t (suc k) (omega arith) h)),
+      )
+
+module _ (limit : ℕ) (files : Files) (accepted : Accepted limit files) where
+  pub accepted-formed : Formed (networkOf files)
+  accepted-formed = net-formed limit (files .NET) (net-accepted limit files accepted)
+
+  pub accepted-acyclic : Acyclic (networkOf files)
+  accepted-acyclic = net-acyclic limit (files .NET) (net-accepted limit files accepted)
+
+  pub accepted-scheduled : Scheduled (networkOf files) (scheduleOf files)
+  accepted-scheduled = mod-scheduled (networkOf files) (files .MOD) (mod-accepted limit files accepted)
+
+  -- VAL of the files follows the rules of 01
+  pub value-follows : Follows (networkOf files) (givenOf files) (held (files .STIM)) (valueAt files)
+  unfolding valueAt
+  value-follows = VAL-follows (networkOf files) accepted-formed accepted-acyclic (givenOf files) (held (files .STIM))
+
+  pub value-unique : (table : ℕ → ℕ → ℕ) → Follows (networkOf files) (givenOf files) (held (files .STIM)) table
+      → (t s : ℕ) → Signal (networkOf files) s → table t s ≡ valueAt files t s
+  unfolding valueAt
+  value-unique table follows t s g =
+      VAL-unique (networkOf files) accepted-formed accepted-acyclic (givenOf files) (held (files .STIM)) table follows t s g
+
+  -- after every cycle, whatever the inputs, the place of every signal holds VAL
+  pub places-hold-VAL : (rows : List (ℕ → ℕ))
+      → Places (networkOf files) (scheduleOf files)
+      (after (networkOf files) (scheduleOf files) (opening (scheduleOf files) (start (networkOf files) (givenOf files))) rows)
+      (VAL (networkOf files) (givenOf files) rows)
+  places-hold-VAL = machine-holds-VAL accepted-formed accepted-acyclic accepted-scheduled (givenOf files)
+
+-- What `printed` prints meets demand 2
+pub printed-demand-2 : (limit : ℕ) → Demand2 limit (printed limit)
+unfolding printed printedFor listing
+printed-demand-2 limit =
+    record {
+      lists = λ files accepted table follows.
+          rw accepted
+          (listing-same (networkOf files .size) (endTime (files .STIM)) (valueAt files) table
+          (λ t s l h. sym (value-unique limit files accepted table follows t s (record { low = l; high = h }))));
+      refuses = λ files number returned e. rw e;
+    }
+
+-- The session over the machine: what a call answers and leaves is its outcome, a contract that is a function
+module _ (fixed : Lengths) (n : Network) (m : Module) (processor slot : ℕ → ℕ) where
+  abbrev result : Working → Lent → Outcome Memory
+  result b c = outcome fixed n (lockstep n m processor slot) (b .head) (b .memory) c
+
+  abbrev pub leaves : Working → Lent → Working
+  leaves b c = record { head = result b c .head; memory = result b c .state }
+
+  pub record Performs (b : Working) (c : Lent) (a : Answer) (b′ : Working) : Type 0 where
+    pub answer : a ≡ result b c .answer
+    pub left : b′ ≡ leaves b c
+
+  -- the calls of a list, one after the other
+  unfoldable pub folded : (b : Working) (cs : List Lent) → Trace Performs b cs
+  folded b [] = end
+  folded b (c ∷ cs) = next (result b c .answer) (leaves b c) (record { answer = refl; left = refl }) (folded (leaves b c) cs)
+
+like-refl : (n : Network) (h : Head) → Like n h h
+like-refl n h = record { finished = refl; hand = λ s g k. refl; watch = refl }
+
+-- Demand 3 without any premise on a trace: from the opening on accepted files, for every list of calls
+module _ (limit : ℕ) (files : Files) (accepted : Accepted limit files) (fixed : Lengths) (processor slot : ℕ → ℕ)
+    (placed : (s : ℕ) → Signal (networkOf files) s
+    → At (scheduleOf files) (processor s) (slot s) × (scheduleOf files .signal (processor s) (slot s) ≡ s)) where
+  abbrev pub opened : Working
+  opened = record { head = fresh (givenOf files); memory = opening (scheduleOf files) (start (networkOf files) (givenOf files)) }
+
+  performs-met : (b : Working) (c : Lent) (a : Answer) (b′ : Working) → Performs fixed (networkOf files) (scheduleOf files) processor slot b c a b′
+      → Met (λ w. w) fixed (networkOf files) (scheduleOf files) processor slot (Near (scheduleOf files)) b c a b′
+  performs-met b c a b′ p =
+      record {
+        answer = p .answer;
+        head = rw (p .left) (like-refl (networkOf files) _);
+        memory = rw (p .left) near-refl;
+      }
+
+  pub session-demand-3 : (cs : List Lent)
+      → Demand3 (Performs fixed (networkOf files) (scheduleOf files) processor slot) (λ w. w) fixed (networkOf files) (scheduleOf files) (givenOf files)
+      (folded fixed (networkOf files) (scheduleOf files) processor slot opened cs) (fresh (givenOf files)) []
+  unfolding fresh network
+  session-demand-3 cs =
+      let formed = accepted-formed limit files accepted in
+      let acyclic = accepted-acyclic limit files accepted in
+      let ok = accepted-scheduled limit files accepted in
+      let size = net-size limit (files .NET) (net-accepted limit files accepted) in
+      demand-3 (λ w. w) fixed (networkOf files) (scheduleOf files) processor slot (Near (scheduleOf files)) (givenOf files)
+      (keeps formed acyclic ok (givenOf files) processor slot placed) (kept-places formed acyclic ok (givenOf files)) (kept-near formed acyclic ok (givenOf files))
+      (Performs fixed (networkOf files) (scheduleOf files) processor slot) (λ b. Unit {0}) (λ b c a b′ g. performs-met b c a b′) (λ b c a b′ g p. tt)
+      (folded fixed (networkOf files) (scheduleOf files) processor slot opened cs) (fresh (givenOf files)) []
+      (record {
+        good = tt;
+        head = like-refl (networkOf files) (fresh (givenOf files));
+        memory = kept-opening formed acyclic ok (givenOf files);
+        watching = record { low = omega arith; high = size .0 };
+        rows-finished = refl;
+      })
