@@ -2,14 +2,15 @@
 -- over the machine itself, from the opening, by folding its outcomes over the list of calls.
 use Prim.Native.Nat.{ℕ, zero, suc, _≤_}
 use mathlib.Core.Path.{_≡_, refl, sym, _∙_, ap}
-use mathlib.Core.List.{List, [], _∷_, _++_}
+use mathlib.Core.Bool.{Bool, true, false, false≢true}
+use mathlib.Core.List.{List, [], _∷_}
 use native.Mathlib.Omega.{arith}
 use lib.Dec.{eqb}
 use Rattle.logic.specs.Choice.{if_then_else_}
 use Rattle.fields.specs.Text.{lineText}
 use Rattle.model.specs.Refusal.{Check, pass, fail, first}
 use Rattle.model.specs.Files.{Files}
-use Rattle.model.specs.Network.{Network, Signal}
+use Rattle.model.specs.Network.{Network, Signal, isSignal}
 use Rattle.model.specs.Netlist.{network, netHeader, netSignal, netSurplus, netChains, netCheck, netSize}
 use Rattle.model.specs.Value.{start, Follows, VAL}
 use Rattle.model.specs.Module.{Module, At}
@@ -21,7 +22,7 @@ use Rattle.model.specs.Listing.{valueAt, joined, listedFirst, listedChan
 use Rattle.model.specs.Demands.{Demand2, Places, Working, Trace, end, next, Demand3}
 use Rattle.model.proofs.Refusals.{first-left, first-right}
 use Rattle.model.proofs.Conditions.{Formed, Acyclic, Scheduled}
-use Rattle.model.proofs.Chains.{chains-pass}
+use Rattle.model.proofs.Chains.{chains-pass, signal-true, signal-test}
 use Rattle.model.proofs.Value.{VAL-follows, VAL-unique}
 use Rattle.model.proofs.Accepted.{net-accepted, mod-accepted, net-formed, net-size, mod-scheduled}
 use Rattle.model.proofs.Machine.{Near, near-refl}
@@ -150,3 +151,22 @@ module _ (limit : ℕ) (files : Files) (accepted : Accepted limit files) (fixed 
         watching = record { low = omega arith; high = size .0 };
         rows-finished = refl;
       })
+
+-- The places that the premise asks for are there
+module _ (limit : ℕ) (files : Files) (accepted : Accepted limit files) where
+  place : (s : ℕ) (b : Bool) → isSignal (networkOf files) s ≡ b → ℕ × ℕ
+  place s true e = let p = accepted-scheduled limit files accepted .places s (signal-true (networkOf files) s e) in (p .processor, p .slot)
+  place s false e = (0, 0)
+
+  pub placeOf : ℕ → ℕ × ℕ
+  placeOf s = place s (isSignal (networkOf files) s) refl
+
+  pub placed-there : (s : ℕ) → Signal (networkOf files) s
+      → At (scheduleOf files) (placeOf s .0) (placeOf s .1) × (scheduleOf files .signal (placeOf s .0) (placeOf s .1) ≡ s)
+  unfolding placeOf place
+  placed-there s g = go (isSignal (networkOf files) s) refl (signal-test (networkOf files) s g)
+    where
+      go : (b : Bool) (e : isSignal (networkOf files) s ≡ b) → b ≡ true
+          → At (scheduleOf files) (place s b e .0) (place s b e .1) × (scheduleOf files .signal (place s b e .0) (place s b e .1) ≡ s)
+      go true e t = let p = accepted-scheduled limit files accepted .places s (signal-true (networkOf files) s e) in (p .at, p .is)
+      go false e t = absurd (false≢true t)
