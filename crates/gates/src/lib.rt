@@ -6,8 +6,8 @@ ghost use Prim.Native.Nat.{_≤_};
 ghost use mathlib.Core.List.{[], _∷_};
 ghost use Rattle.logic.specs.Test.{one, count};
 ghost use Rattle.gates.specs.Value.{is};
-ghost use Rattle.gates.specs.Translation.{translation, invert, withoutZ};
-ghost use Rattle.gates.specs.Function.{function, conjunction, parity, selection, majority};
+ghost use Rattle.gates.specs.Translation.{isTranslation, isConstant, translation, invert, withoutZ};
+ghost use Rattle.gates.specs.Function.{isFunction, function, conjunction, parity, selection, majority};
 ghost use Rattle.gates.specs.Gate.{gate};
 
 // The codes of a gate: its function and its translations.
@@ -18,6 +18,27 @@ pub struct Gate {
     pub g3: u8,
     pub g4: u8,
     pub g5: u8,
+}
+
+// The code of a function that is supplied.
+pub fn is_function(code: u16) -> bool
+    ensures { λ r. ⌜ r ≡ isFunction code ⌝ }
+{
+    code <= 4
+}
+
+// The code of a translation that is supplied.
+pub fn is_translation(code: u16) -> bool
+    ensures { λ r. ⌜ r ≡ isTranslation code ⌝ }
+{
+    code <= 6
+}
+
+// The code of a translation that gives a constant.
+pub fn is_constant(code: u16) -> bool
+    ensures { λ r. ⌜ r ≡ isConstant code ⌝ }
+{
+    code <= 3
 }
 
 // Translation 5.

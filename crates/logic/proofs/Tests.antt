@@ -130,3 +130,7 @@ module _ (p : ℕ → Bool) where
       go : (b : Bool) → all n p ≡ b → b ≡ false
       go false q = refl
       go true q = absurd (true≢false (sym (all-at n q k l) ∙ e))
+
+  -- a count that has come to its end
+  pub all-ends : (n k : ℕ) → k ≤ n → n ≤ k → all k p ≡ true → all n p ≡ true
+  all-ends n k low high h = let e : k ≡ n = omega arith in subst (λ (m : ℕ). all m p ≡ true) e h
