@@ -6,3 +6,4 @@ pub mod LowHalf
 pub mod Writing
 pub mod Spelling
 pub mod RoundTrip
+pub mod Taken

@@ -2,3 +2,4 @@ pub mod Tests
 pub mod Any
 pub mod Totals
 pub mod Pigeon
+pub mod Counts

@@ -116,6 +116,17 @@ module _ (net : List ℕ) (s : ℕ) (line : isLineAt net (netLine s) 12 ≡ true
       source : (j : ℕ) → j < 4 → sourceRight net s j ≡ true
       source = all-at _ 4 (or-otherwise _ _ right (λ e. gate (eqb-true _ _ e)))
 
+-- what 10, 11 and 12 leave of a line
+pub signal-right : (net : List ℕ) (s : ℕ) → netSignal net s ≡ pass → SignalRight net s
+unfolding netSignal
+signal-right net s h =
+    let line = unless-true _ _ _ (first-left _ _ h) in
+    let layout = unless-true _ _ _ (first-left _ _ (first-right _ _ h)) in
+    let number = eqb-true _ _ (and-left _ _ layout) in
+    ⊎-elim (input-right net s line number)
+    (λ l. gate-right net s line number l (unless-true _ _ _ (first-right _ _ (first-right _ _ h))))
+    (or-cases _ _ (and-right _ _ layout))
+
 module _ (limit : ℕ) (net : List ℕ) (accepted : netCheck limit net ≡ pass) where
   net-header : netHeader limit net ≡ pass
   unfolding netCheck
@@ -126,16 +137,9 @@ module _ (limit : ℕ) (net : List ℕ) (accepted : netCheck limit net ≡ pass)
   net-size = within (and-left _ _ (and-right _ _ (unless-true _ _ _ (first-right _ _ net-header))))
 
   pub net-signal : (s : ℕ) → Signal (network net) s → SignalRight net s
-  unfolding netCheck network netSignal
+  unfolding netCheck network
   net-signal s g =
-      let all = first-left _ _ (first-right _ _ accepted) in
-      let h = signal-pass (netSize net) (netSignal net) all s (g .low) (g .high) in
-      let line = unless-true _ _ _ (first-left _ _ h) in
-      let layout = unless-true _ _ _ (first-left _ _ (first-right _ _ h)) in
-      let number = eqb-true _ _ (and-left _ _ layout) in
-      ⊎-elim (input-right net s line number)
-      (λ l. gate-right net s line number l (unless-true _ _ _ (first-right _ _ (first-right _ _ h))))
-      (or-cases _ _ (and-right _ _ layout))
+      signal-right net s (signal-pass (netSize net) (netSignal net) (first-left _ _ (first-right _ _ accepted)) s (g .low) (g .high))
 
   pub net-formed : Formed (network net)
   unfolding network
