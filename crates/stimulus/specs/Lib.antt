@@ -1,0 +1,3 @@
+pub mod Answer
+pub mod Stepping
+pub mod Judging
