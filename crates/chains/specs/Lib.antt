@@ -1,0 +1,6 @@
+pub mod Graph
+pub mod Zeros
+pub mod Search
+pub mod Ranks
+pub mod Passes
+pub mod Descent

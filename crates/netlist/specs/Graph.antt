@@ -1,0 +1,36 @@
+-- The rank-order gates and their feeders as the code loads them: it mirrors private functions.
+use Prim.Native.Nat.{ℕ, zero, suc, _+_, _*_, _/_, _%_, _<_, _≤_}
+use mathlib.Core.Path.{_≡_}
+use mathlib.Core.Bool.{true}
+use mathlib.Core.List.{List}
+use lib.Dec.{eqb}
+use lib.ListN.{length, getD, set}
+use Rattle.logic.specs.Test.{one}
+use Rattle.logic.specs.Choice.{if_then_else_}
+use Rattle.fields.specs.Line.{isLineAt}
+use Rattle.model.specs.Network.{rankOrder}
+use Rattle.model.specs.Netlist.{netField, netSize}
+
+-- NET's lines have passed 10 to 12
+pub record Lines (net : List ℕ) (size : ℕ) : Type 0 where
+  pub is : size ≡ netSize net
+  pub small : size ≤ 4096
+  pub right : (s : ℕ) → s ≤ size → isLineAt net (73 * s) 12 ≡ true
+  pub sources : (s j : ℕ) → 1 ≤ s → s ≤ size → j < 4 → netField net s (8 + j) ≤ size
+
+-- 1 for the rank-order gates among the signals 1 to k
+unfoldable pub followTo : List ℕ → List ℕ → ℕ → List ℕ
+followTo net l zero = l
+followTo net l (suc k) = set (followTo net l k) (k + 1) (one (eqb (netField net (k + 1) 0) rankOrder))
+
+-- the feeder that entry i of the graph names: a rank-order gate that is a source of a rank-order gate
+unfoldable pub feederOf : List ℕ → List ℕ → ℕ → ℕ
+feederOf net follow i =
+    if eqb (getD follow (i / 4) 0) 1 then
+    (if eqb (getD follow (netField net (i / 4) (8 + i % 4)) 0) 1 then netField net (i / 4) (8 + i % 4) else 0)
+    else 0
+
+-- the entries 4 to 3 + k
+unfoldable pub edgesTo : List ℕ → List ℕ → List ℕ → ℕ → List ℕ
+edgesTo net follow l zero = l
+edgesTo net follow l (suc k) = set (edgesTo net follow l k) (k + 4) (feederOf net follow (k + 4))
