@@ -58,10 +58,16 @@ module _ (net : List ℕ) where
     signal-same : (s : ℕ) → s ≤ 4096 → netSignal taken s ≡ netSignal net s
     unfolding netSignal inputLayout gateLayout sourcesRight
     signal-same s h =
-        rw (line-same s h, field-same s h 0 (omega arith), field-same s h 1 (omega arith), field-same s h 2 (omega arith), zeros-same s h,
+        rw (
+          line-same s h,
+          field-same s h 0 (omega arith),
+          field-same s h 1 (omega arith),
+          field-same s h 2 (omega arith),
+          zeros-same s h,
           all-same 5 (λ k. isTranslation (netField taken s (3 + k))) (λ k. isTranslation (netField net s (3 + k)))
-            (λ k l. ap isTranslation (field-same s h (3 + k) (omega arith))),
-          all-same 4 (sourceRight taken s) (sourceRight net s) (λ j l. source-same s j h l))
+              (λ k l. ap isTranslation (field-same s h (3 + k) (omega arith))),
+          all-same 4 (sourceRight taken s) (sourceRight net s) (λ j l. source-same s j h l),
+        )
 
     signals-same : firstBelow (netSize taken) (λ k. netSignal taken (suc k)) ≡ firstBelow (netSize net) (λ k. netSignal net (suc k))
     signals-same = rw size-same (below-same (netSize net) _ _ (λ k l. signal-same (suc k) (omega arith)))
@@ -80,30 +86,30 @@ module _ (net : List ℕ) where
     feeds-there a b f =
         let high-a : a ≤ netSize net = rw size-same at (f .from .high) in
         let high-b : b ≤ netSize net = rw size-same at (f .to .high) in
-        record
-          { from = record { low = f .from .low; high = high-a }
-          ; to = record { low = f .to .low; high = high-b }
-          ; from-rank = sym (field-same a (omega arith) 0 (omega arith)) ∙ f .from-rank
-          ; to-rank = sym (field-same b (omega arith) 0 (omega arith)) ∙ f .to-rank
-          ; index = f .index
-          ; small = f .small
-          ; is-source = sym (field-same b (omega arith) (8 + f .index) (omega (arith, f .small))) ∙ f .is-source
-          }
+        record {
+          from = record { low = f .from .low; high = high-a };
+          to = record { low = f .to .low; high = high-b };
+          from-rank = sym (field-same a (omega arith) 0 (omega arith)) ∙ f .from-rank;
+          to-rank = sym (field-same b (omega arith) 0 (omega arith)) ∙ f .to-rank;
+          index = f .index;
+          small = f .small;
+          is-source = sym (field-same b (omega arith) (8 + f .index) (omega (arith, f .small))) ∙ f .is-source;
+        }
 
     feeds-back : (a b : ℕ) → Feeds (network net) a b → Feeds (network taken) a b
     unfolding network
     feeds-back a b f =
         let high-a : a ≤ netSize net = f .from .high in
         let high-b : b ≤ netSize net = f .to .high in
-        record
-          { from = record { low = f .from .low; high = rw size-same (f .from .high) }
-          ; to = record { low = f .to .low; high = rw size-same (f .to .high) }
-          ; from-rank = field-same a (omega arith) 0 (omega arith) ∙ f .from-rank
-          ; to-rank = field-same b (omega arith) 0 (omega arith) ∙ f .to-rank
-          ; index = f .index
-          ; small = f .small
-          ; is-source = field-same b (omega arith) (8 + f .index) (omega (arith, f .small)) ∙ f .is-source
-          }
+        record {
+          from = record { low = f .from .low; high = rw size-same (f .from .high) };
+          to = record { low = f .to .low; high = rw size-same (f .to .high) };
+          from-rank = field-same a (omega arith) 0 (omega arith) ∙ f .from-rank;
+          to-rank = field-same b (omega arith) 0 (omega arith) ∙ f .to-rank;
+          index = f .index;
+          small = f .small;
+          is-source = field-same b (omega arith) (8 + f .index) (omega (arith, f .small)) ∙ f .is-source;
+        }
 
     chain-there : {a b : ℕ} → Chain (network taken) a b → Chain (network net) a b
     chain-there (one f) = one (feeds-there _ _ f)
