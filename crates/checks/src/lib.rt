@@ -1,0 +1,43 @@
+// The three file checks one after the other, for tests and measurements in C.
+
+ghost use mathlib.Core.Path.{_≡_};
+ghost use Prim.Native.Nat.{_+_, _*_, _≤_};
+ghost use Rattle.model.specs.Refusal.{pass};
+ghost use Rattle.model.specs.Netlist.{netCheck, network};
+ghost use Rattle.model.specs.Stimulus.{stimCheck};
+ghost use Rattle.netlist.specs.Answer.{netRefusal};
+ghost use Rattle.stimulus.specs.Answer.{stimRefusal};
+ghost use Rattle.checks.specs.Code.{code};
+use netlist::NetAnswer;
+use stimulus::StimAnswer;
+
+// A refusal's number and what it returns, as one number.
+fn coded(number: u64, returned: u16) -> u64
+    requires { ⌜ number ≤ 100 ⌝ }
+    ensures { λ r. ⌜ r ≡ 65536 * number + returned ⌝ }
+{
+    65536 * number + (returned as u64)
+}
+
+fn net_code(answer: NetAnswer) -> u64
+    ensures { λ r. ⌜ r ≡ code (netRefusal answer) ⌝ }
+{
+    match answer {
+        NetAnswer::Accepted(_) => 0,
+        NetAnswer::Misformed(line) => coded(10, line),
+        NetAnswer::Layout(line) => coded(11, line),
+        NetAnswer::Sources(line) => coded(12, line),
+        NetAnswer::Chain(signal) => coded(13, signal),
+    }
+}
+
+fn stim_code(answer: StimAnswer) -> u64
+    ensures { λ r. ⌜ r ≡ code (stimRefusal answer) ⌝ }
+{
+    match answer {
+        StimAnswer::Accepted(_) => 0,
+        StimAnswer::Misformed(line) => coded(30, line),
+        StimAnswer::Layout(line) => coded(31, line),
+        StimAnswer::NotInput(line) => coded(32, line),
+    }
+}
