@@ -3,26 +3,38 @@ use Prim.Native.Nat.{ℕ}
 use mathlib.Core.Path.{_≡_, sym, _∙_, ap}
 use mathlib.Core.List.{List}
 use Rattle.model.specs.Refusal.{Check, pass, fail, first}
-use Rattle.model.specs.Files.{Files}
 use Rattle.model.specs.Netlist.{network, netCheck}
 use Rattle.model.specs.Schedule.{modCheck}
 use Rattle.model.specs.Stimulus.{stimCheck}
 use Rattle.model.specs.Acceptance.{fileCheck}
 use Rattle.model.proofs.Refusals.{first-second, first-stays}
+use Rattle.netlist.specs.Answer.{netRefusal, Judged}
+use Rattle.netlist.specs.declared.NetAnswer.{NetAnswer}
+use Rattle.netlist.proofs.Joined.{Refusal}
+use Rattle.schedule.specs.Answer.{modRefusal, Answers}
+use Rattle.schedule.specs.declared.ModAnswer.{ModAnswer}
+use Rattle.schedule.specs.declared.ModAnswer.the-variants.{Accepted}
+use Rattle.schedule.proofs.Stages.{refused}
+use Rattle.stimulus.specs.Answer.{stimRefusal, Answers as StimAnswers}
+use Rattle.stimulus.specs.declared.StimAnswer.{StimAnswer}
 use Rattle.checks.specs.Code.{code, checked}
 
 module _ (net table stim : List ℕ) where
-  pub net-stops : {number returned : ℕ} → netCheck 4096 net ≡ fail number returned → code (netCheck 4096 net) ≡ checked net table stim
+  pub net-stops : (r : NetAnswer) (size : ℕ) → Judged (netCheck 4096 net) size r → Refusal r → code (netRefusal r) ≡ checked net table stim
   unfolding checked fileCheck
-  net-stops e = ap code (e ∙ sym (first-stays (netCheck 4096 net) _ e))
+  net-stops r size j f = ap code (j .refusal ∙ (e ∙ sym (first-stays (netCheck 4096 net) _ e)))
+    where
+      e : netCheck 4096 net ≡ fail (f .number) (f .returned)
+      e = sym (j .refusal) ∙ f .is
 
   module _ (net-right : netCheck 4096 net ≡ pass) where
-    pub mod-stops : {number returned : ℕ} → modCheck (network net) table ≡ fail number returned → code (modCheck (network net) table) ≡ checked net table stim
+    pub mod-stops : (r : ModAnswer) (p c : ℕ) → Answers p c (modCheck (network net) table) r → ((a b : ℕ) → r ≡ Accepted a b → ⊥)
+        → code (modRefusal r) ≡ checked net table stim
     unfolding checked fileCheck
-    mod-stops e =
-        ap code (e ∙ sym (first-second (netCheck 4096 net) _ net-right ∙ first-stays (modCheck (network net) table) _ e))
+    mod-stops r p c answers other =
+        ap code (refused r p c 0 0 _ (stimCheck (network net) stim) answers other .refusal ∙ sym (first-second (netCheck 4096 net) _ net-right))
 
-    pub stim-last : modCheck (network net) table ≡ pass → code (stimCheck (network net) stim) ≡ checked net table stim
+    pub stim-last : (r : StimAnswer) → modCheck (network net) table ≡ pass → StimAnswers (network net) stim r → code (stimRefusal r) ≡ checked net table stim
     unfolding checked fileCheck
-    stim-last mod-right =
-        ap code (sym (first-second (netCheck 4096 net) _ net-right ∙ first-second (modCheck (network net) table) _ mod-right))
+    stim-last r mod-right answers =
+        ap code (answers .refusal ∙ sym (first-second (netCheck 4096 net) _ net-right ∙ first-second (modCheck (network net) table) _ mod-right))

@@ -1,0 +1,26 @@
+// "A location named by a table line has a part and a number" (01, One cycle of the machine).
+
+ghost use mathlib.Core.Path.{_≡_};
+ghost use Rattle.operands.specs.Operand.{operandOf};
+
+// What a pair of a table line names: a location of one of the four parts, in the order of their numbers, or none.
+pub enum Operand {
+    LocalEarlier(u8),
+    LocalPresent(u8),
+    SwitchEarlier(u8),
+    SwitchPresent(u8),
+    None,
+}
+
+// The operand that a pair names. A part that has no location, as 9, names none.
+pub fn operand_of(part: u16, location: u8) -> Operand
+    ensures { λ r. ⌜ r ≡ operandOf part location ⌝ }
+{
+    match part {
+        0 => Operand::LocalEarlier(location),
+        1 => Operand::LocalPresent(location),
+        2 => Operand::SwitchEarlier(location),
+        3 => Operand::SwitchPresent(location),
+        _ => Operand::None,
+    }
+}

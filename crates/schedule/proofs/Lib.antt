@@ -1,0 +1,10 @@
+pub mod Header
+pub mod Judged
+pub mod Lines
+pub mod Counts
+pub mod Slots
+pub mod Told
+pub mod Named
+pub mod Sources
+pub mod Stages
+pub mod Surplus

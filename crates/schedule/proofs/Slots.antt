@@ -1,0 +1,136 @@
+-- What the lines' check leaves: each line after the first is right (`SlotRight`), by processor and slot or by its number, and so are the
+-- fields that the later checks read.
+use Prim.Native.Nat.{ℕ, suc, _+_, _*_, _/_, _%_, _<_, _≤_}
+use mathlib.Core.Path.{_≡_, refl, sym, subst, subst₂, ap, _∙_}
+use mathlib.Core.Bool.{Bool, true, false, not}
+use mathlib.Core.List.{List}
+use mathlib.Core.Logic.{_⊎_, inl, inr, ⊎-elim}
+use native.Mathlib.Omega.{arith}
+use native.Mathlib.Nat.{suc-mul, mul-le-mul-right, mul-le-mul, div-eq-of-lt, mod-eq-of-lt, mul-add-div-right, mul-add-mod-self-right, div-lt-iff-lt-mul, mod-lt}
+use lib.Dec.{eqb, leb, ltb}
+use lib.ListN.{length}
+use borrow.Author.Tests.{eqb-true, eqb-false, leb-true, ltb-true, not-true}
+use Rattle.logic.specs.Test.{_and_, _or_}
+use Rattle.logic.proofs.Tests.{and-left, and-right, all-at, or-cases, or-otherwise}
+use Rattle.fields.specs.Field.{isFieldAt, numberAt}
+use Rattle.fields.specs.Line.{isLineAt}
+use Rattle.model.specs.Refusal.{Check, pass, first, unless, firstBelow}
+use Rattle.model.specs.Network.{Network}
+use Rattle.model.specs.Module.{Module, At, noPart}
+use Rattle.model.specs.Schedule.{modLine, modField, modProcessors, modSlots, modIndex, moduleOf, locationLayout, operandLayout, sendLayout, senderLayout, lineLayout, modSlot, eachLine}
+use Rattle.model.proofs.Refusals.{first-left, first-right, unless-true, below-pass}
+use Rattle.model.proofs.RightLine.{line-within}
+use Rattle.model.proofs.Accepted.{Located, SlotRight}
+use Rattle.operands.specs.Operand.{operandOf, partOf, locationOf}
+use Rattle.schedule.specs.Answer.{Sized, Laid}
+use Rattle.schedule.proofs.Header.{field-of-line}
+use Rattle.schedule.proofs.Lines.{line-index, line-total}
+
+located : (m : Module) (most part k : ℕ) → (leb part most or eqb part noPart) and locationLayout m part k ≡ true → Located m most part k
+unfolding locationLayout
+located m most part k layout =
+    let place = and-right _ _ layout in
+    record {
+      part-known = ⊎-elim (λ e. inl (leb-true _ _ e)) (λ e. inr (eqb-true _ _ e)) (or-cases _ _ (and-left _ _ layout));
+      low = ltb-true _ _ (and-left _ _ place);
+      none-at-0 = λ e. eqb-true _ _ (or-otherwise _ _ (and-right _ _ place) (λ d. eqb-false _ _ (not-true _ d) e));
+    }
+
+slot-right : (n : Network) (l : List ℕ) (p i : ℕ) → modSlot n l p i ≡ pass → SlotRight n l p i
+unfolding modSlot lineLayout operandLayout sendLayout senderLayout
+slot-right n l p i h =
+    let layout = unless-true _ _ _ (first-right _ _ h) in
+    let from-slot = and-right _ _ layout in
+    let from-signal = and-right _ _ from-slot in
+    let from-operands = and-right _ _ from-signal in
+    let from-send = and-right _ _ from-operands in
+    record {
+      line = unless-true _ _ _ (first-left _ _ h);
+      processor = eqb-true _ _ (and-left _ _ layout);
+      slot = eqb-true _ _ (and-left _ _ from-slot);
+      signal = leb-true _ _ (and-left _ _ from-signal);
+      operand = λ j l. located _ _ _ _ (all-at _ 4 (and-left _ _ from-operands) j l);
+      send = located _ _ _ _ (and-left _ _ from-send);
+      sender = ⊎-elim (λ e. inl (ltb-true _ _ e)) (λ e. inr (eqb-true _ _ e)) (or-cases _ _ (and-right _ _ from-send));
+    }
+
+module _ (l : List ℕ) (p c : ℕ) (laid : Laid l p c) where
+  -- by processor and slot
+  pub slot-laid : (q i : ℕ) → q < p → i < c → SlotRight (laid .network) l q i
+  unfolding eachLine
+  slot-laid q i low-q low-i =
+      let C = modSlots l in
+      let s = laid .sized in
+      let i-low : i < C = omega (arith, s .slots) in
+      let q-low : q < modProcessors l = omega (arith, s .processors) in
+      let positive : 0 < C = omega arith in
+      let quotient : (q * C + i) / C ≡ q = omega (arith, mul-add-div-right positive q i, div-eq-of-lt i-low) in
+      let remainder : (q * C + i) % C ≡ i = mul-add-mod-self-right q C i ∙ mod-eq-of-lt i-low in
+      let low : q * C + i < modProcessors l * C = omega (arith, suc-mul q C, mul-le-mul-right C q-low) in
+      slot-right (laid .network) l q i
+      (subst₂ (λ (x y : ℕ). modSlot (laid .network) l x y ≡ pass) quotient remainder (below-pass _ _ (laid .lines) (q * C + i) low))
+
+  pub index-small : (q i : ℕ) → q < p → i < c → 1 + q * modSlots l + i ≤ 4096
+  index-small q i low-q low-i =
+      let s = laid .sized in
+      omega (arith, s .slots, s .slots-high, s .processors-high, suc-mul q (modSlots l), mul-le-mul {n₁ = suc q} {m₁ = modSlots l} {n₂ = 16} {m₂ = 256} (omega arith) (omega arith))
+
+  -- by its number
+  module _ (k : ℕ) (low : k < p * c) where
+    pub at-processor : k / c < p
+    at-processor = div-lt-iff-lt-mul {k = c} {x = k} {y = p} (omega (arith, laid .sized .slots-low)) .1 low
+
+    pub at-slot : k % c < c
+    at-slot = mod-lt k {m = c} (omega (arith, laid .sized .slots-low))
+
+    slot-numbered : SlotRight (laid .network) l (k / modSlots l) (k % modSlots l)
+    unfolding eachLine
+    slot-numbered =
+        slot-right (laid .network) l (k / modSlots l) (k % modSlots l)
+        (below-pass _ _ (laid .lines) k (omega (arith, line-total l p c (laid .sized))))
+
+    pub laid-line : isLineAt l (85 * (k + 1)) 14 ≡ true
+    laid-line = rw (line-index l k) at (slot-numbered .line)
+
+    pub laid-signal : modField l (k + 1) 2 ≤ 4096
+    unfolding moduleOf
+    laid-signal =
+        let h : modField l (modIndex l (k / modSlots l) (k % modSlots l)) 2 ≤ laid .network .size = slot-numbered .signal in
+        omega (arith, rw (line-index l k) at h, laid .few)
+
+  -- the fields of the line of a processor and a slot, which stands at a place
+  module _ (q i place : ℕ) (low-q : q < p) (low-i : i < c) (here : place ≡ 85 * (1 + q * c + i)) where
+    at-line : place ≡ modLine (modIndex l q i)
+    at-line = here ∙ ap (λ (n : ℕ). 85 * (1 + q * n + i)) (laid .sized .slots)
+
+    pub field-laid : (k x : ℕ) → k < 14 → x ≡ place + 6 * k → isFieldAt l x ≡ true
+    field-laid k x low e = field-of-line l (modLine (modIndex l q i)) 14 (slot-laid q i low-q low-i .line) k x low (omega (arith, at-line))
+
+    pub field-read : (k x : ℕ) → x ≡ place + 6 * k → numberAt l x ≡ modField l (modIndex l q i) k
+    field-read k x e =
+        let f : x ≡ modLine (modIndex l q i) + 6 * k = omega (arith, at-line) in
+        ap (λ (y : ℕ). numberAt l y) f
+
+    -- a location is below 256, and so is the processor received from, 99 or below 16
+    pub send-small : numberAt l (place + 66 + 6) < 256
+    unfolding moduleOf
+    send-small =
+        omega (arith, field-read 12 (place + 66 + 6) (omega arith), slot-laid q i low-q low-i .send .low, laid .sized .slots, laid .sized .slots-high)
+
+    pub operand-small : (j x : ℕ) → j < 4 → x ≡ place + 6 * (4 + 2 * j) → numberAt l x < 256
+    unfolding moduleOf
+    operand-small j x low e =
+        omega (arith, field-read (4 + 2 * j) x e, slot-laid q i low-q low-i .operand j low .low, laid .sized .slots, laid .sized .slots-high)
+
+    pub sender-small : numberAt l (place + 78) < 256
+    unfolding moduleOf
+    sender-small =
+        ⊎-elim
+        (λ (h : modField l (modIndex l q i) 13 < modProcessors l).
+        omega (arith, field-read 13 (place + 78) (omega arith), laid .sized .processors, laid .sized .processors-high))
+        (λ (h : modField l (modIndex l q i) 13 ≡ 99). omega (arith, field-read 13 (place + 78) (omega arith)))
+        (slot-laid q i low-q low-i .sender)
+
+    pub pair-read : (k x : ℕ) → x ≡ place + 6 * k
+        → operandOf (numberAt l x) (numberAt l (x + 6)) ≡ operandOf (modField l (modIndex l q i) k) (modField l (modIndex l q i) (k + 1))
+    pair-read k x e = rw (field-read k x e, field-read (k + 1) (x + 6) (omega arith))

@@ -1,0 +1,148 @@
+-- Bytes past the longest MOD, 85 × 4097 = 348245, and one more change no answer: no check looks at them before the surplus is refused.
+use Prim.Native.Nat.{ℕ, zero, suc, _+_, _*_, _/_, _%_, _<_, _≤_}
+use mathlib.Core.Path.{_≡_, refl, sym, ap, _∙_}
+use mathlib.Core.Bool.{Bool, true, false}
+use mathlib.Core.List.{List, [], _∷_}
+use native.Mathlib.Omega.{arith}
+use native.Mathlib.Nat.{mul-le-mul}
+use lib.Dec.{eqb, leb}
+use lib.ListN.{length, getD, take, drop}
+use lib.Seq.{length-take-le, take-all, take-take, getD-take}
+use borrow.Author.Tests.{leb-true, leb-false, lt-leb}
+use Rattle.logic.specs.Test.{_and_, all}
+use Rattle.fields.specs.Field.{columnsAt, isField, isFieldAt, number, numberAt}
+use Rattle.fields.specs.Line.{isLineAt}
+use Rattle.model.specs.Refusal.{Check, pass, fail, first, unless, firstBelow}
+use Rattle.model.specs.Network.{Network}
+use Rattle.model.specs.Schedule.{modLine, modField, modProcessors, modSlots, modIndex, moduleOf, modHeader, modSlot, lineLayout, eachLine, modSurplus, modCheck}
+use Rattle.model.proofs.Refusals.{first-second, first-stays}
+use Rattle.schedule.specs.Answer.{Sized}
+use Rattle.schedule.specs.Layout.{lineAt, operandsAt, pairLaid, senderLaid}
+use Rattle.schedule.proofs.Lines.{line-judged, line-index, below-same}
+use Rattle.schedule.proofs.Stages.{header-sized}
+
+-- a piece that ends before the cut
+piece-kept : (at n long : ℕ) (l : List ℕ) → at + n ≤ long → take n (drop at (take long l)) ≡ take n (drop at l)
+piece-kept zero n long l h = take-take n long l (omega arith)
+piece-kept (suc at) n zero l h = absurd (omega arith)
+piece-kept (suc at) n (suc long) [] h = refl
+piece-kept (suc at) n (suc long) (x ∷ l) h = piece-kept at n long l (omega arith)
+
+all-same : (n : ℕ) (f g : ℕ → Bool) → ((k : ℕ) → k < n → f k ≡ g k) → all n f ≡ all n g
+unfolding all
+all-same zero f g h = refl
+all-same (suc n) f g h = rw (all-same n f g (λ k l. h k (omega arith)), h n (omega arith))
+
+module _ (l : List ℕ) (long : ℕ) (enough : 348246 ≤ long) where
+  cut : List ℕ
+  cut = take long l
+
+  columns-kept : (at : ℕ) → at + 6 ≤ 348246 → columnsAt cut at ≡ columnsAt l at
+  unfolding cut
+  columns-kept at h = piece-kept at 6 long l (omega arith)
+
+  -- the line at a place, one of the first 4097
+  module _ (at : ℕ) (low : at + 85 ≤ 348246) where
+    line-kept : isLineAt cut at 14 ≡ isLineAt l at 14
+    unfolding isLineAt cut
+    line-kept =
+        let fields : all 14 (λ k. isFieldAt cut (at + 6 * k)) ≡ all 14 (λ k. isFieldAt l (at + 6 * k)) =
+        all-same 14 (λ k. isFieldAt cut (at + 6 * k)) (λ k. isFieldAt l (at + 6 * k)) (λ k h. ap isField (columns-kept (at + 6 * k) (omega arith))) in
+        let end : getD cut (at + 84) 0 ≡ getD l (at + 84) 0 = getD-take long l (at + 84) 0 (omega arith) in
+        rw (fields, end)
+
+    field-kept : (x : ℕ) → x ≤ at + 79 → numberAt cut x ≡ numberAt l x
+    field-kept x h = ap number (columns-kept x (omega arith))
+
+    judged-kept : (p i size processors slots : ℕ) → lineAt cut at p i size processors slots ≡ lineAt l at p i size processors slots
+    unfolding lineAt operandsAt
+    judged-kept p i size processors slots =
+        rw (
+          field-kept at (omega arith),
+          field-kept (at + 6) (omega arith),
+          field-kept (at + 12) (omega arith),
+          field-kept (at + 18) (omega arith),
+          field-kept (at + 18 + 6) (omega arith),
+          field-kept (at + 30) (omega arith),
+          field-kept (at + 30 + 6) (omega arith),
+          field-kept (at + 42) (omega arith),
+          field-kept (at + 42 + 6) (omega arith),
+          field-kept (at + 54) (omega arith),
+          field-kept (at + 54 + 6) (omega arith),
+          field-kept (at + 66) (omega arith),
+          field-kept (at + 66 + 6) (omega arith),
+          field-kept (at + 78) (omega arith),
+        )
+        refl
+
+  processors-kept : modProcessors cut ≡ modProcessors l
+  processors-kept = field-kept 0 (omega arith) 0 (omega arith)
+
+  slots-kept : modSlots cut ≡ modSlots l
+  slots-kept = field-kept 0 (omega arith) 6 (omega arith)
+
+  header-kept : modHeader cut ≡ modHeader l
+  unfolding modHeader
+  header-kept =
+      let zeros : all 12 (λ k. eqb (modField cut 0 (2 + k)) 0) ≡ all 12 (λ k. eqb (modField l 0 (2 + k)) 0) =
+      all-same 12 (λ k. eqb (modField cut 0 (2 + k)) 0) (λ k. eqb (modField l 0 (2 + k)) 0)
+      (λ k h. ap (λ (x : ℕ). eqb x 0) (field-kept 0 (omega arith) (85 * 0 + 6 * (2 + k)) (omega arith))) in
+      rw (line-kept 0 (omega arith), processors-kept, slots-kept, zeros)
+
+  slot-kept : (n : Network) (p i : ℕ) → modIndex l p i ≤ 4096 → modSlot n cut p i ≡ modSlot n l p i
+  unfolding modSlot
+  slot-kept n p i h =
+      let low : 85 * modIndex l p i + 85 ≤ 348246 = omega arith in
+      rw (line-judged n cut p i, line-judged n l p i, processors-kept, slots-kept, line-kept (85 * modIndex l p i) low)
+      (rw (judged-kept (85 * modIndex l p i) low p i (n .size) (modProcessors l) (modSlots l)))
+
+  module _ (right : modHeader l ≡ pass) where
+    few-lines : modProcessors l * modSlots l ≤ 4096
+    few-lines =
+        let s = header-sized l (modProcessors l) (modSlots l) right refl refl in
+        omega (arith, mul-le-mul (s .processors-high) (s .slots-high))
+
+    lines-kept : (n : Network) → eachLine cut (modSlot n cut) ≡ eachLine l (modSlot n l)
+    unfolding eachLine
+    lines-kept n =
+        rw (processors-kept, slots-kept)
+        (below-same (modProcessors l * modSlots l) (λ k. modSlot n cut (k / modSlots l) (k % modSlots l))
+        (λ k. modSlot n l (k / modSlots l) (k % modSlots l))
+        (λ k h. slot-kept n (k / modSlots l) (k % modSlots l) (omega (arith, line-index l k, few-lines))))
+
+    -- the whole file and the cut one both have a line after the last
+    surplus-kept : long < length l → (rest more : Check) → first (modSurplus cut) rest ≡ first (modSurplus l) more
+    unfolding modSurplus unless first
+    surplus-kept h rest more =
+        let size : length cut ≡ long = unfold cut in length-take-le long l (omega arith) in
+        rw (
+          processors-kept,
+          slots-kept,
+          lt-leb (length cut) (85 * (modProcessors l * modSlots l + 1)) (omega (arith, few-lines)),
+          lt-leb (length l) (85 * (modProcessors l * modSlots l + 1)) (omega (arith, few-lines)),
+        )
+
+  cut-kept : (n : Network) → modCheck n cut ≡ modCheck n l
+  unfolding modCheck cut
+  cut-kept n = go (leb (length l) long) refl
+    where
+      after-lines : long < length l → modHeader l ≡ pass → (k : Check) → eachLine l (modSlot n l) ≡ k → modCheck n cut ≡ modCheck n l
+      after-lines h right (fail number returned) e =
+          rw (header-kept, first-second _ _ right, lines-kept right n)
+          (first-stays _ _ e ∙ sym (first-second _ _ right ∙ first-stays _ _ e))
+      after-lines h right pass e =
+          rw (header-kept, lines-kept right n)
+          (first-second _ _ right ∙ first-second _ _ e ∙ surplus-kept right h _ _
+          ∙ sym (first-second _ _ right ∙ first-second _ _ e))
+
+      after-header : long < length l → (k : Check) → modHeader l ≡ k → modCheck n cut ≡ modCheck n l
+      after-header h (fail number returned) e = rw header-kept (first-stays _ _ e ∙ sym (first-stays _ _ e))
+      after-header h pass e = after-lines h e (eachLine l (modSlot n l)) refl
+
+      go : (b : Bool) → leb (length l) long ≡ b → modCheck n cut ≡ modCheck n l
+      go true e = ap (modCheck n) (take-all long l (leb-true (length l) long e))
+      go false e = after-header (leb-false (length l) long e) (modHeader l) refl
+
+pub bytes-past : (n : Network) (table : List ℕ) → modCheck n (take 348246 table) ≡ modCheck n table
+unfolding cut
+bytes-past n table = cut-kept table 348246 (omega arith) n

@@ -1,0 +1,163 @@
+use Prim.Native.Nat.{ℕ, _+_, _*_, _-_, _≤_}
+use mathlib.Core.Path.{_≡_, refl, sym, _∙_, ap}
+use mathlib.Core.Bool.{true}
+use native.Mathlib.Omega.{arith}
+use Rattle.logic.specs.Test.{all}
+use Rattle.fields.specs.Field.{isFieldAt}
+use Rattle.model.specs.Refusal.{firstBelow}
+use Rattle.schedule.specs.declared.ModAnswer.the-variants.{Accepted}
+use borrow.Author.Tests.{not-true, not-false}
+use Rattle.schedule.specs.Answer.{modRefusal}
+use Rattle.schedule.proofs.Lines.{LinesPass, below-goes-on, field-stops, field-goes-on, line-unended, line-whole, lines-pass, lines-stop, slot-misformed, slot-wrong, slot-right}
+use borrow.Author.Needs.{needs}
+use Rattle.schedule.proofs.check_lines.Statement.{statement}
+use Rattle.schedule.proofs.check_lines.Tie as tie
+
+abbrev Inv-loop : tie.InvT-loop
+Inv-loop table signals processors slots lines answer₀ k at column₀ answer column =
+    (answer ≡ answer₀) × (column ≤ 14) × (all column (λ j. isFieldAt table (at + 6 * j)) ≡ true)
+
+abbrev μ-loop : tie.MeasureT-loop
+μ-loop table signals processors slots lines answer₀ k at column₀ answer column = 14 - column
+
+abbrev Inv-lines : tie.InvT-lines
+Inv-lines table signals processors slots lines answer₀ k₀ answer k =
+    (answer ≡ Accepted processors slots) × (k ≤ lines) × LinesPass signals table k
+
+abbrev μ-lines : tie.MeasureT-lines
+μ-lines table signals processors slots lines answer₀ k₀ answer k = lines - k
+
+line-count-requires : tie.Need-line-count-requires Inv-loop μ-loop Inv-lines μ-lines
+line-count-requires c κs = search needs
+
+lines-holds : tie.Need-lines-holds Inv-loop μ-loop Inv-lines μ-lines
+unfolding all firstBelow
+lines-holds c = search needs
+
+add-at : tie.Need-add-at Inv-loop μ-loop Inv-lines μ-lines
+add-at c = search needs
+
+mul-at : tie.Need-mul-at Inv-loop μ-loop Inv-lines μ-lines
+mul-at c = search needs
+
+loop-holds : tie.Need-loop-holds Inv-loop μ-loop Inv-lines μ-lines
+unfolding all firstBelow
+loop-holds c = search needs
+
+mul-read-field : tie.Need-mul-read-field Inv-loop μ-loop Inv-lines μ-lines
+mul-read-field c = search needs
+
+add-read-field : tie.Need-add-read-field Inv-loop μ-loop Inv-lines μ-lines
+add-read-field c = search needs
+
+read-field-requires : tie.Need-read-field-requires Inv-loop μ-loop Inv-lines μ-lines
+read-field-requires c κs = search needs
+
+enum-told : tie.Need-enum-told Inv-loop μ-loop Inv-lines μ-lines
+enum-told c = search needs
+
+enum-told-2 : tie.Need-enum-told-2 Inv-loop μ-loop Inv-lines μ-lines
+enum-told-2 c = search needs
+
+add-t18 : tie.Need-add-t18 Inv-loop μ-loop Inv-lines μ-lines
+add-t18 c = search needs
+
+cast-t19 : tie.Need-cast-t19 Inv-loop μ-loop Inv-lines μ-lines
+cast-t19 c = search needs
+
+add-column : tie.Need-add-column Inv-loop μ-loop Inv-lines μ-lines
+add-column c = search needs
+
+loop-less : tie.Need-loop-less Inv-loop μ-loop Inv-lines μ-lines
+loop-less c = search needs
+
+loop-again : tie.Need-loop-again Inv-loop μ-loop Inv-lines μ-lines
+loop-again c = (c .before .before .before .before .loop .inv .0, omega arith, field-goes-on _ _ _ (c .before .before .before .before .loop .inv .2) (sym (c .before .before .read-field .ensures) ∙ c .enum-told .given .1))
+
+add-ends-at : tie.Need-add-ends-at Inv-loop μ-loop Inv-lines μ-lines
+add-ends-at c = search needs
+
+ends-at-requires : tie.Need-ends-at-requires Inv-loop μ-loop Inv-lines μ-lines
+ends-at-requires c κs = search needs
+
+add-t21 : tie.Need-add-t21 Inv-loop μ-loop Inv-lines μ-lines
+add-t21 c = search needs
+
+cast-t22 : tie.Need-cast-t22 Inv-loop μ-loop Inv-lines μ-lines
+cast-t22 c = search needs
+
+processor-of-requires : tie.Need-processor-of-requires Inv-loop μ-loop Inv-lines μ-lines
+processor-of-requires c κs = search needs
+
+slot-of-requires : tie.Need-slot-of-requires Inv-loop μ-loop Inv-lines μ-lines
+slot-of-requires c κs = search needs
+
+line-laid-requires : tie.Need-line-laid-requires Inv-loop μ-loop Inv-lines μ-lines
+line-laid-requires c κs = line-whole _ _ _ (c .before .before .before .before .before .loop .inv .1) (c .before .before .before .before .loop-test .left) (c .before .before .before .before .before .loop .inv .2) _ (c .before .before .before .ends-at .ensures) (not-false _ (c .before .before .if1 .left))
+
+add-t23 : tie.Need-add-t23 Inv-loop μ-loop Inv-lines μ-lines
+add-t23 c = search needs
+
+cast-t24 : tie.Need-cast-t24 Inv-loop μ-loop Inv-lines μ-lines
+cast-t24 c = search needs
+
+add-k : tie.Need-add-k Inv-loop μ-loop Inv-lines μ-lines
+add-k c = search needs
+
+lines-less : tie.Need-lines-less Inv-loop μ-loop Inv-lines μ-lines
+lines-less c = search needs
+
+lines-again : tie.Need-lines-again Inv-loop μ-loop Inv-lines μ-lines
+lines-again c = (c .before .before .before .before .before .before .before .loop .inv .0 ∙ c .before .before .before .before .before .before .before .before .before .lines .inv .0, omega arith, λ n e. below-goes-on _ _ (c .before .before .before .before .before .before .before .before .before .lines .inv .2 n e) (slot-right (c .before .before .before .before .before .before .before .before .before .before .before .before .args .table .now) (c .before .before .before .before .before .before .before .before .before .lines .k) (85 * (c .before .before .before .before .before .before .before .before .before .lines .k + 1)) refl n (line-whole _ _ _ (c .before .before .before .before .before .before .before .loop .inv .1) (c .before .before .before .before .before .before .loop-test .left) (c .before .before .before .before .before .before .before .loop .inv .2) _ (c .before .before .before .before .before .ends-at .ensures) (not-false _ (c .before .before .before .before .if1 .left))) (c .before .line-laid .result) ((cc)) (not-false _ (c .if2 .left))))
+
+returns : tie.Need-returns Inv-loop μ-loop Inv-lines μ-lines
+returns c = λ n e. record { refusal = ap modRefusal (c .before .lines .inv .0) ∙ sym (lines-pass _ _ _ (c .before .before .before .before .pre) _ _ _ (c .before .before .line-count .ensures .0) (c .before .lines .inv .2) n e (c .before .lines .inv .1) (c .lines-test .left)); sizes = rw (c .before .lines .inv .0) (refl, refl) }
+
+returns-2 : tie.Need-returns-2 Inv-loop μ-loop Inv-lines μ-lines
+returns-2 c = λ n e. record { refusal = sym (lines-stop _ _ _ (c .before .before .before .before .before .before .before .before .before .pre) _ _ _ (c .before .before .before .before .before .before .before .line-count .ensures .0) (c .before .before .before .before .before .before .lines .inv .2) n e (c .before .before .before .before .before .lines-test .taken) (slot-misformed _ _ _ refl n (field-stops _ _ _ (c .before .before .before .loop-test .taken) (sym (c .before .before .read-field .ensures) ∙ c .enum-told2 .given .1)))); sizes = tt }
+
+returns-3 : tie.Need-returns-3 Inv-loop μ-loop Inv-lines μ-lines
+returns-3 c = λ n e. record { refusal = sym (lines-stop _ _ _ (c .before .before .before .before .before .before .before .before .pre) _ _ _ (c .before .before .before .before .before .before .line-count .ensures .0) (c .before .before .before .before .before .lines .inv .2) n e (c .before .before .before .before .lines-test .taken) (slot-misformed _ _ _ refl n (line-unended _ _ _ (c .before .before .before .loop .inv .1) (c .before .before .loop-test .left) (c .before .before .before .loop .inv .2) _ (c .before .ends-at .ensures) (not-true _ (c .if1 .taken))))); sizes = tt }
+
+returns-4 : tie.Need-returns-4 Inv-loop μ-loop Inv-lines μ-lines
+returns-4 c = λ n e. record { refusal = sym (lines-stop _ _ _ (c .before .before .before .before .before .before .before .before .before .before .before .before .pre) _ _ _ (c .before .before .before .before .before .before .before .before .before .before .line-count .ensures .0) (c .before .before .before .before .before .before .before .before .before .lines .inv .2) n e (c .before .before .before .before .before .before .before .before .lines-test .taken) (slot-wrong (c .before .before .before .before .before .before .before .before .before .before .before .before .args .table .now) (c .before .before .before .before .before .before .before .before .before .lines .k) (85 * (c .before .before .before .before .before .before .before .before .before .lines .k + 1)) refl n (line-whole _ _ _ (c .before .before .before .before .before .before .before .loop .inv .1) (c .before .before .before .before .before .before .loop-test .left) (c .before .before .before .before .before .before .before .loop .inv .2) _ (c .before .before .before .before .before .ends-at .ensures) (not-false _ (c .before .before .before .before .if1 .left))) (c .before .line-laid .result) ((cc)) (not-true _ (c .if2 .taken)))); sizes = tt }
+
+pub check-lines-spec : {M : Type 1} → statement M
+check-lines-spec =
+    tie.close
+    (tie.spec
+    Inv-loop
+    μ-loop
+    Inv-lines
+    μ-lines
+    line-count-requires
+    lines-holds
+    add-at
+    mul-at
+    loop-holds
+    mul-read-field
+    add-read-field
+    read-field-requires
+    enum-told
+    enum-told-2
+    add-t18
+    cast-t19
+    add-column
+    loop-less
+    loop-again
+    add-ends-at
+    ends-at-requires
+    add-t21
+    cast-t22
+    processor-of-requires
+    slot-of-requires
+    line-laid-requires
+    add-t23
+    cast-t24
+    add-k
+    lines-less
+    lines-again
+    returns
+    returns-2
+    returns-3
+    returns-4)

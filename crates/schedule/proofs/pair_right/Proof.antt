@@ -1,0 +1,18 @@
+use mathlib.Core.Path.{sym}
+use native.Mathlib.Omega.{arith}
+use Rattle.schedule.proofs.Judged.{pair-far, pair-none, pair-part}
+use borrow.Author.Needs.{needs}
+use Rattle.schedule.proofs.pair_right.Statement.{statement}
+use Rattle.schedule.proofs.pair_right.Tie as tie
+
+returns : tie.Need-returns
+returns c = sym (pair-far _ _ _ _ (c .if1 .taken))
+
+returns-2 : tie.Need-returns-2
+returns-2 c = sym (pair-none _ _ _ _ (c .before .if1 .left) (c .if2 .taken))
+
+returns-3 : tie.Need-returns-3
+returns-3 c = sym (pair-part _ _ _ _ (c .before .if1 .left) (c .if2 .left))
+
+pub pair-right-spec : {M : Type 1} → statement M
+pair-right-spec = tie.close (tie.spec returns returns-2 returns-3)

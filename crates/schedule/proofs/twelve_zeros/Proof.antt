@@ -1,0 +1,61 @@
+use Prim.Native.Nat.{_≤_, _-_, _+_, _*_}
+use mathlib.Core.Path.{_≡_, sym, _∙_}
+use mathlib.Core.Bool.{true}
+use native.Mathlib.Omega.{arith}
+use lib.Dec.{eqb}
+use Rattle.logic.specs.Test.{all}
+use Rattle.model.specs.Schedule.{modField}
+use Rattle.schedule.proofs.Header.{field-of-line, zeros-stop, zeros-go-on}
+use borrow.Author.Needs.{needs}
+use Rattle.schedule.proofs.twelve_zeros.Statement.{statement}
+use Rattle.schedule.proofs.twelve_zeros.Tie as tie
+
+abbrev Inv-loop : tie.InvT-loop
+Inv-loop table k₀ k = (k ≤ 12) × (all k (λ j. eqb (modField table 0 (2 + j)) 0) ≡ true)
+
+abbrev μ-loop : tie.MeasureT-loop
+μ-loop table k₀ k = 12 - k
+
+loop-holds : tie.Need-loop-holds Inv-loop μ-loop
+unfolding all
+loop-holds c = search needs
+
+mul-number-at : tie.Need-mul-number-at Inv-loop μ-loop
+mul-number-at c = search needs
+
+add-number-at : tie.Need-add-number-at Inv-loop μ-loop
+add-number-at c = search needs
+
+number-at-requires : tie.Need-number-at-requires Inv-loop μ-loop
+number-at-requires c κs = field-of-line _ 0 14 (c .before .before .before .pre) (2 + c .before .loop .k) (12 + 6 * c .before .loop .k) (omega arith) (omega arith)
+
+returns : tie.Need-returns Inv-loop μ-loop
+returns c = sym (zeros-stop _ _ (c .before .before .loop-test .taken) (λ e. c .if1 .taken (c .before .number-at .ensures ∙ e)))
+
+add-k : tie.Need-add-k Inv-loop μ-loop
+add-k c = search needs
+
+loop-less : tie.Need-loop-less Inv-loop μ-loop
+loop-less c = search needs
+
+loop-again : tie.Need-loop-again Inv-loop μ-loop
+loop-again c = (omega arith, zeros-go-on _ _ (c .before .before .before .loop .inv .1) (sym (c .before .number-at .ensures) ∙ c .if1 .left))
+
+returns-2 : tie.Need-returns-2 Inv-loop μ-loop
+returns-2 c = let e : c .before .loop .k ≡ 12 = omega arith in sym (rw e at (c .before .loop .inv .1))
+
+pub twelve-zeros-spec : {M : Type 1} → statement M
+twelve-zeros-spec =
+    tie.close
+    (tie.spec
+    Inv-loop
+    μ-loop
+    loop-holds
+    mul-number-at
+    add-number-at
+    number-at-requires
+    returns
+    add-k
+    loop-less
+    loop-again
+    returns-2)

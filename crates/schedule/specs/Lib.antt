@@ -1,0 +1,5 @@
+pub mod Answer
+pub mod Layout
+pub mod Counting
+pub mod Instruction
+pub mod Sent

@@ -1,0 +1,17 @@
+-- The condition on a send that the two switch parts share (01, One cycle of the machine: "look at the send into k"); `reads` is what a
+-- caller reads.
+use Prim.Native.Nat.{ℕ}
+use mathlib.Core.Bool.{Bool}
+use lib.Dec.{eqb}
+use Rattle.logic.specs.Test.{_and_}
+use Rattle.logic.specs.Choice.{if_then_else_}
+use Rattle.model.specs.Network.{unitDelay}
+use Rattle.model.specs.Module.{Module, localEarlier, localPresent, sentPart, sentSignal, received}
+
+-- something is sent into switch location k of processor p, it is of the given part, and it is the signal s
+unfoldable pub sentRight : Module → ℕ → ℕ → ℕ → ℕ → Bool
+sentRight m p k part s = received m p k and eqb (sentPart m p k) part and eqb (sentSignal m p k) s
+
+-- the send that part 3 wants: "a send of part 0 for a unit-delay gate or part 1 for a rank-order gate"
+abbrev pub wantedSend : ℕ → ℕ
+wantedSend kind = if eqb kind unitDelay then localEarlier else localPresent

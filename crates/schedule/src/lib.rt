@@ -1,0 +1,812 @@
+// MOD's check (01, Files and Refusals): 20 and 21 line by line, then 22, 24, 25 and 23, each over all lines.
+
+use fields::Field;
+use fields::Line;
+use operands::Operand;
+ghost use mathlib.Core.Path.{_≡_};
+ghost use mathlib.Core.Bool.{Bool, true, false};
+ghost use Prim.Native.Nat.{ℕ, _+_, _*_, _/_, _%_, _<_, _≤_};
+ghost use lib.ListN.{length, getD};
+ghost use lib.Dec.{eqb};
+ghost use Rattle.logic.specs.Test.{all};
+ghost use Rattle.fields.specs.Field.{isFieldAt, numberAt};
+ghost use Rattle.fields.specs.Line.{isLineAt, newline};
+ghost use Rattle.model.specs.Refusal.{pass};
+ghost use Rattle.model.specs.Network.{Network};
+ghost use Rattle.model.specs.Netlist.{netSize, network, netCheck};
+ghost use Rattle.model.specs.Module.{localEarlier, localPresent, switchEarlier, switchPresent, noPart, placements, sendRight, receptionRight, reads, operandRight};
+ghost use Rattle.model.specs.Schedule.{modProcessors, modSlots, modField, moduleOf, modHeader, modSlot, eachLine, modSurplus, placed, sending, receiving, operands, modCheck};
+ghost use Rattle.schedule.specs.Answer.{Answers, Sized, Laid, SignalsWithin};
+ghost use Rattle.schedule.specs.Counting.{countedOnce};
+ghost use Rattle.operands.specs.Operand.{operandOf, partOf, locationOf};
+ghost use Rattle.schedule.specs.Instruction.{operandNamed, sendNamed, instructionOf};
+ghost use Rattle.schedule.specs.Sent.{sentRight, wantedSend};
+ghost use Rattle.schedule.specs.Layout.{pairLaid, pairAt, operandsAt, senderLaid, lineAt};
+
+// MOD accepted with P and C, or refused: with a line, and at 22 with a signal.
+pub enum ModAnswer {
+    Accepted(u16, u16),
+    Misformed(u16),
+    Layout(u16),
+    Placement(u16),
+    Send(u16),
+    Reception(u16),
+    WrongOperand(u16),
+}
+
+// "twelve zeros": the rest of line 1.
+fn twelve_zeros(table: &[u8]) -> bool
+    requires { ⌜ isLineAt (now table) 0 14 ≡ true ⌝ }
+    ensures { λ r. ⌜ r ≡ all 12 (λ k. eqb (modField (now (table .entry)) 0 (2 + k)) 0) ⌝ }
+{
+    let mut k: usize = 0;
+    while k < 12 {
+        if fields::number_at(table, 12 + 6 * k) != 0 {
+            return false;
+        }
+        k += 1;
+    }
+    true
+}
+
+// Line 1: 20, then 21.
+fn check_header(table: &[u8]) -> ModAnswer
+    ensures { λ r. ⌜ Answers (modProcessors (now (table .entry))) (modSlots (now (table .entry))) (modHeader (now (table .entry))) r ⌝ }
+{
+    let Line::Next(_) = fields::read_line(table, 0, 14) else {
+        return ModAnswer::Misformed(1);
+    };
+    let p = fields::number_at(table, 0);
+    let c = fields::number_at(table, 6);
+    if p < 1 {
+        return ModAnswer::Layout(1);
+    }
+    if 16 < p {
+        return ModAnswer::Layout(1);
+    }
+    if c < 1 {
+        return ModAnswer::Layout(1);
+    }
+    if 256 < c {
+        return ModAnswer::Layout(1);
+    }
+    if twelve_zeros(table) {
+        return ModAnswer::Accepted(p, c);
+    }
+    ModAnswer::Layout(1)
+}
+
+// A pair of a line: a part up to `most` and a location below C, or "Part 9 with location 0".
+fn pair_right(part: u16, location: u16, most: u16, slots: u16) -> bool
+    ensures { λ r. ⌜ r ≡ pairLaid slots most part location ⌝ }
+{
+    if slots <= location {
+        return false;
+    }
+    if part == 9 {
+        return location == 0;
+    }
+    part <= most
+}
+
+// "processors below P", or none.
+fn sender_right(sender: u16, processors: u16) -> bool
+    ensures { λ r. ⌜ r ≡ senderLaid processors sender ⌝ }
+{
+    if sender < processors {
+        return true;
+    }
+    sender == 99
+}
+
+// The pair at a place.
+fn pair_at(table: &[u8], at: usize, most: u16, slots: u16) -> bool
+    requires { ⌜ (isFieldAt (now table) at ≡ true) × (isFieldAt (now table) (at + 6) ≡ true) ⌝ }
+    ensures { λ r. ⌜ r ≡ pairAt (now (table .entry)) at most slots ⌝ }
+{
+    pair_right(
+        fields::number_at(table, at),
+        fields::number_at(table, at + 6),
+        most,
+        slots,
+    )
+}
+
+// The four operands of the line at a place: "part 0 to 3 or 9".
+fn operands_laid(table: &[u8], at: usize, slots: u16) -> bool
+    requires { ⌜ isLineAt (now table) at 14 ≡ true ⌝ }
+    ensures { λ r. ⌜ r ≡ operandsAt (now (table .entry)) at slots ⌝ }
+{
+    if !pair_at(table, at + 18, 3, slots) {
+        return false;
+    }
+    if !pair_at(table, at + 30, 3, slots) {
+        return false;
+    }
+    if !pair_at(table, at + 42, 3, slots) {
+        return false;
+    }
+    pair_at(table, at + 54, 3, slots)
+}
+
+// The line at a place has the layout of the given processor and slot, N, P and C being given.
+fn line_laid(
+    table: &[u8],
+    at: usize,
+    processor: u16,
+    slot: u16,
+    signals: u16,
+    processors: u16,
+    slots: u16,
+) -> bool
+    requires { ⌜ isLineAt (now table) at 14 ≡ true ⌝ }
+    ensures { λ r. ⌜ r ≡ lineAt (now (table .entry)) at processor slot signals processors slots ⌝ }
+{
+    if fields::number_at(table, at) != processor {
+        return false;
+    }
+    if fields::number_at(table, at + 6) != slot {
+        return false;
+    }
+    if signals < fields::number_at(table, at + 12) {
+        return false;
+    }
+    if !operands_laid(table, at, slots) {
+        return false;
+    }
+    if !pair_at(table, at + 66, 1, slots) {
+        return false;
+    }
+    sender_right(fields::number_at(table, at + 78), processors)
+}
+
+// P × C.
+fn line_count(processors: u16, slots: u16) -> usize
+    requires { ⌜ (processors ≤ 16) × (slots ≤ 256) ⌝ }
+    ensures { λ r. ⌜ (r ≡ processors * slots) × (r ≤ 4096) ⌝ }
+{
+    (processors as usize) * (slots as usize)
+}
+
+// "by processor (0 to P-1), within it by slot (0 to C-1)": the processor and the slot of the line k after the first.
+fn processor_of(k: usize, slots: u16) -> u16
+    requires { ⌜ (k < 4096) × (1 ≤ slots) ⌝ }
+    ensures { λ r. ⌜ r ≡ k / slots ⌝ }
+{
+    (k / (slots as usize)) as u16
+}
+
+fn slot_of(k: usize, slots: u16) -> u16
+    requires { ⌜ (k < 4096) × (1 ≤ slots) ⌝ }
+    ensures { λ r. ⌜ r ≡ k % slots ⌝ }
+{
+    (k % (slots as usize)) as u16
+}
+
+// Byte 10 stands at a place.
+fn ends_at(table: &[u8], at: usize) -> bool
+    ensures { λ r. ⌜ r ≡ eqb (getD (now (table .entry)) at 0) newline ⌝ }
+{
+    if table.len() <= at {
+        return false;
+    }
+    table[at] == 10
+}
+
+// The lines after the first, in their order: 20, then 21, with the first bad line.
+fn check_lines(table: &[u8], signals: u16, processors: u16, slots: u16) -> ModAnswer
+    requires { ⌜ Sized (now table) processors slots ⌝ }
+    ensures { λ r. ⌜ ((n : Network) → n .size ≡ signals → Answers processors slots (eachLine (now (table .entry)) (modSlot n (now (table .entry)))) r) ⌝ }
+{
+    let lines = line_count(processors, slots);
+    let mut answer = ModAnswer::Accepted(processors, slots);
+    let mut k: usize = 0;
+    'lines: while k < lines {
+        let at = 85 * (k + 1);
+        let mut column: usize = 0;
+        while column < 14 {
+            let Field::Number(_, _) = fields::read_field(table, at + 6 * column) else {
+                answer = ModAnswer::Misformed((k + 2) as u16);
+                break 'lines;
+            };
+            column += 1;
+        }
+        if !ends_at(table, at + 84) {
+            answer = ModAnswer::Misformed((k + 2) as u16);
+            break 'lines;
+        }
+        let processor = processor_of(k, slots);
+        let slot = slot_of(k, slots);
+        if !line_laid(table, at, processor, slot, signals, processors, slots) {
+            answer = ModAnswer::Layout((k + 2) as u16);
+            break 'lines;
+        }
+        k += 1;
+    }
+    answer
+}
+
+// A line after the last: 20.
+fn check_surplus(table: &[u8], processors: u16, slots: u16) -> ModAnswer
+    requires { ⌜ Sized (now table) processors slots ⌝ }
+    ensures { λ r. ⌜ Answers processors slots (modSurplus (now (table .entry))) r ⌝ }
+{
+    let lines = line_count(processors, slots);
+    if 85 * (lines + 1) < table.len() {
+        return ModAnswer::Misformed((lines + 2) as u16);
+    }
+    ModAnswer::Accepted(processors, slots)
+}
+
+// How often each signal is placed, counted line by line.
+fn count_signals(table: &[u8], processors: u16, slots: u16, counts: &mut [u16])
+    requires { ⌜ Laid (now table) processors slots ⌝ }
+    requires { ⌜ (length (now counts) ≡ 4097) × ((s : ℕ) → s ≤ 4096 → getD (now counts) s 0 ≡ 0) ⌝ }
+    ensures { λ _. ⌜ ((s : ℕ) → s ≤ 4096 → getD (now (counts .exit)) s 0 ≡ placements (moduleOf (now (table .entry))) s) ⌝ }
+{
+    let lines = line_count(processors, slots);
+    let mut k: usize = 0;
+    while k < lines {
+        let signal = fields::number_at(table, 85 * (k + 1) + 12) as usize;
+        counts[signal] += 1;
+        k += 1;
+    }
+}
+
+// 22: the smallest signal that is not counted once.
+fn find_unplaced(counts: &[u16], signals: u16, processors: u16, slots: u16) -> ModAnswer
+    requires { ⌜ signals < length (now counts) ⌝ }
+    ensures { λ r. ⌜ Answers processors slots (countedOnce signals (now (counts .entry))) r ⌝ }
+{
+    let mut signal: u16 = 0;
+    while signal < signals {
+        let next = signal + 1;
+        if counts[next as usize] != 1 {
+            return ModAnswer::Placement(next);
+        }
+        signal = next;
+    }
+    ModAnswer::Accepted(processors, slots)
+}
+
+// 22: "signal not placed exactly once".
+fn check_placements(table: &[u8], signals: u16, processors: u16, slots: u16) -> ModAnswer
+    requires { ⌜ Laid (now table) processors slots ⌝ }
+    requires { ⌜ signals ≤ 4096 ⌝ }
+    ensures { λ r. ⌜ ((n : Network) → n .size ≡ signals → Answers processors slots (placed n (moduleOf (now (table .entry)))) r) ⌝ }
+{
+    let mut counts = [0u16; 4097];
+    count_signals(table, processors, slots, &mut counts);
+    find_unplaced(&counts, signals, processors, slots)
+}
+
+// A table line as it is executed: its signal (0: empty slot), what its operands and its send name, and the processor that it receives
+// from (99: none).
+pub struct Instruction {
+    pub signal: u16,
+    pub a1: Operand,
+    pub a2: Operand,
+    pub a3: Operand,
+    pub a4: Operand,
+    pub send: Operand,
+    pub sender: u8,
+}
+
+// The place of the line of a processor and a slot.
+fn line_place(processor: u16, slot: u16, slots: u16) -> usize
+    requires { ⌜ (processor < 16) × (slot < 256) × (slots ≤ 256) ⌝ }
+    ensures { λ r. ⌜ (r ≡ 85 * (1 + processor * slots + slot)) × (r ≤ 348160) ⌝ }
+{
+    85 * (1 + (processor as usize) * (slots as usize) + (slot as usize))
+}
+
+// The signal of a processor and a slot.
+fn signal_at(table: &[u8], processors: u16, slots: u16, processor: u16, slot: u16) -> u16
+    requires { ⌜ Laid (now table) processors slots ⌝ }
+    requires { ⌜ (processor < processors) × (slot < slots) ⌝ }
+    ensures { λ r. ⌜ r ≡ moduleOf (now (table .entry)) .signal processor slot ⌝ }
+{
+    fields::number_at(table, line_place(processor, slot, slots) + 12)
+}
+
+// The processor that it receives from.
+fn sender_at(table: &[u8], processors: u16, slots: u16, processor: u16, slot: u16) -> u8
+    requires { ⌜ Laid (now table) processors slots ⌝ }
+    requires { ⌜ (processor < processors) × (slot < slots) ⌝ }
+    ensures { λ r. ⌜ r ≡ moduleOf (now (table .entry)) .sender processor slot ⌝ }
+{
+    fields::number_at(table, line_place(processor, slot, slots) + 78) as u8
+}
+
+// What the pair at a place names.
+fn named_at(table: &[u8], at: usize) -> Operand
+    requires { ⌜ (isFieldAt (now table) at ≡ true) × (isFieldAt (now table) (at + 6) ≡ true) × (numberAt (now table) (at + 6) < 256) ⌝ }
+    ensures { λ r. ⌜ r ≡ operandOf (numberAt (now (table .entry)) at) (numberAt (now (table .entry)) (at + 6)) ⌝ }
+{
+    operands::operand_of(
+        fields::number_at(table, at),
+        fields::number_at(table, at + 6) as u8,
+    )
+}
+
+// What a processor sends in a slot.
+fn send_at(table: &[u8], processors: u16, slots: u16, processor: u16, slot: u16) -> Operand
+    requires { ⌜ Laid (now table) processors slots ⌝ }
+    requires { ⌜ (processor < processors) × (slot < slots) ⌝ }
+    ensures { λ r. ⌜ r ≡ sendNamed (moduleOf (now (table .entry))) processor slot ⌝ }
+{
+    named_at(table, line_place(processor, slot, slots) + 66)
+}
+
+// The line of a processor and a slot.
+pub fn instruction_at(
+    table: &[u8],
+    processors: u16,
+    slots: u16,
+    processor: u16,
+    slot: u16,
+) -> Instruction
+    requires { ⌜ Laid (now table) processors slots ⌝ }
+    requires { ⌜ (processor < processors) × (slot < slots) ⌝ }
+    ensures { λ r. ⌜ r ≡ instructionOf (moduleOf (now (table .entry))) processor slot ⌝ }
+{
+    let at = line_place(processor, slot, slots);
+    Instruction {
+        signal: fields::number_at(table, at + 12),
+        a1: named_at(table, at + 18),
+        a2: named_at(table, at + 30),
+        a3: named_at(table, at + 42),
+        a4: named_at(table, at + 54),
+        send: named_at(table, at + 66),
+        sender: fields::number_at(table, at + 78) as u8,
+    }
+}
+
+// 24: the line of a processor and a slot sends no "empty slot's location, or part 1 with location not below its own slot". Its layout
+// has no send from the switch.
+fn send_right(table: &[u8], processors: u16, slots: u16, processor: u16, slot: u16) -> bool
+    requires { ⌜ Laid (now table) processors slots ⌝ }
+    requires { ⌜ (processor < processors) × (slot < slots) ⌝ }
+    ensures { λ r. ⌜ r ≡ sendRight (moduleOf (now (table .entry))) processor slot ⌝ }
+{
+    let line = instruction_at(table, processors, slots, processor, slot);
+    let send = line.send;
+    match send {
+        Operand::LocalEarlier(k) => signal_at(table, processors, slots, processor, k as u16) != 0,
+        Operand::LocalPresent(k) => {
+            if slot <= k as u16 {
+                return false;
+            }
+            signal_at(table, processors, slots, processor, k as u16) != 0
+        }
+        Operand::SwitchEarlier(_) => false,
+        Operand::SwitchPresent(_) => false,
+        Operand::None => true,
+    }
+}
+
+// 25: it does not receive "from a processor that sends none in that slot".
+fn reception_right(table: &[u8], processors: u16, slots: u16, processor: u16, slot: u16) -> bool
+    requires { ⌜ Laid (now table) processors slots ⌝ }
+    requires { ⌜ (processor < processors) × (slot < slots) ⌝ }
+    ensures { λ r. ⌜ r ≡ receptionRight (moduleOf (now (table .entry))) processor slot ⌝ }
+{
+    let line = instruction_at(table, processors, slots, processor, slot);
+    let sender = line.sender;
+    if sender == 99 {
+        return true;
+    }
+    let send = send_at(table, processors, slots, sender as u16, slot);
+    let Operand::None = send else {
+        return true;
+    };
+    false
+}
+
+// 24, over all lines.
+fn check_sends(table: &[u8], processors: u16, slots: u16) -> ModAnswer
+    requires { ⌜ Laid (now table) processors slots ⌝ }
+    ensures { λ r. ⌜ Answers processors slots (sending (now (table .entry))) r ⌝ }
+{
+    let lines = line_count(processors, slots);
+    let mut k: usize = 0;
+    while k < lines {
+        let processor = processor_of(k, slots);
+        let slot = slot_of(k, slots);
+        if !send_right(table, processors, slots, processor, slot) {
+            return ModAnswer::Send((k + 2) as u16);
+        }
+        k += 1;
+    }
+    ModAnswer::Accepted(processors, slots)
+}
+
+// 25, over all lines.
+fn check_receptions(table: &[u8], processors: u16, slots: u16) -> ModAnswer
+    requires { ⌜ Laid (now table) processors slots ⌝ }
+    ensures { λ r. ⌜ Answers processors slots (receiving (now (table .entry))) r ⌝ }
+{
+    let lines = line_count(processors, slots);
+    let mut k: usize = 0;
+    while k < lines {
+        let processor = processor_of(k, slots);
+        let slot = slot_of(k, slots);
+        if !reception_right(table, processors, slots, processor, slot) {
+            return ModAnswer::Reception((k + 2) as u16);
+        }
+        k += 1;
+    }
+    ModAnswer::Accepted(processors, slots)
+}
+
+// "Switch: look at the send into k": it is there, of the given part, and of the source.
+fn sent_right(
+    table: &[u8],
+    processors: u16,
+    slots: u16,
+    processor: u16,
+    k: u16,
+    part: u16,
+    source: u16,
+) -> bool
+    requires { ⌜ Laid (now table) processors slots ⌝ }
+    requires { ⌜ (processor < processors) × (k < slots) × (part ≤ 1) ⌝ }
+    ensures { λ r. ⌜ r ≡ sentRight (moduleOf (now (table .entry))) processor k part source ⌝ }
+{
+    let sender = sender_at(table, processors, slots, processor, k);
+    if sender == 99 {
+        return false;
+    }
+    let send = send_at(table, processors, slots, sender as u16, k);
+    match send {
+        Operand::LocalEarlier(location) => {
+            if part != 0 {
+                return false;
+            }
+            signal_at(table, processors, slots, sender as u16, location as u16) == source
+        }
+        Operand::LocalPresent(location) => {
+            if part != 1 {
+                return false;
+            }
+            signal_at(table, processors, slots, sender as u16, location as u16) == source
+        }
+        Operand::SwitchEarlier(_) => false,
+        Operand::SwitchPresent(_) => false,
+        Operand::None => false,
+    }
+}
+
+// "Local 0: the signal placed at k is the source, gate unit-delay."
+fn local_earlier_right(
+    table: &[u8],
+    processors: u16,
+    slots: u16,
+    processor: u16,
+    slot: u16,
+    k: u16,
+    kind: u16,
+    source: u16,
+) -> bool
+    requires { ⌜ Laid (now table) processors slots ⌝ }
+    requires { ⌜ (processor < processors) × (k < slots) ⌝ }
+    ensures { λ r. ⌜ r ≡ reads (moduleOf (now (table .entry))) processor slot localEarlier k kind source ⌝ }
+{
+    if kind != 2 {
+        return false;
+    }
+    signal_at(table, processors, slots, processor, k) == source
+}
+
+// "Local 1: k < i, the signal at k is the source, gate rank-order."
+fn local_present_right(
+    table: &[u8],
+    processors: u16,
+    slots: u16,
+    processor: u16,
+    slot: u16,
+    k: u16,
+    kind: u16,
+    source: u16,
+) -> bool
+    requires { ⌜ Laid (now table) processors slots ⌝ }
+    requires { ⌜ (processor < processors) × (k < slots) ⌝ }
+    ensures { λ r. ⌜ r ≡ reads (moduleOf (now (table .entry))) processor slot localPresent k kind source ⌝ }
+{
+    if kind != 3 {
+        return false;
+    }
+    if slot <= k {
+        return false;
+    }
+    signal_at(table, processors, slots, processor, k) == source
+}
+
+// "Part 2 wants a send of part 1, gate unit-delay."
+fn switch_earlier_right(
+    table: &[u8],
+    processors: u16,
+    slots: u16,
+    processor: u16,
+    slot: u16,
+    k: u16,
+    kind: u16,
+    source: u16,
+) -> bool
+    requires { ⌜ Laid (now table) processors slots ⌝ }
+    requires { ⌜ (processor < processors) × (k < slots) ⌝ }
+    ensures { λ r. ⌜ r ≡ reads (moduleOf (now (table .entry))) processor slot switchEarlier k kind source ⌝ }
+{
+    if kind != 2 {
+        return false;
+    }
+    sent_right(table, processors, slots, processor, k, 1, source)
+}
+
+// The part of the send that part 3 wants.
+fn wanted_send(kind: u16) -> u16
+    ensures { λ r. ⌜ (r ≡ wantedSend kind) × (r ≤ 1) ⌝ }
+{
+    if kind == 2 {
+        return 0;
+    }
+    1
+}
+
+// "Part 3 wants k < i, and a send of part 0 for a unit-delay gate or part 1 for a rank-order gate."
+fn switch_present_right(
+    table: &[u8],
+    processors: u16,
+    slots: u16,
+    processor: u16,
+    slot: u16,
+    k: u16,
+    kind: u16,
+    source: u16,
+) -> bool
+    requires { ⌜ Laid (now table) processors slots ⌝ }
+    requires { ⌜ (processor < processors) × (k < slots) ⌝ }
+    ensures { λ r. ⌜ r ≡ reads (moduleOf (now (table .entry))) processor slot switchPresent k kind source ⌝ }
+{
+    if slot <= k {
+        return false;
+    }
+    sent_right(
+        table,
+        processors,
+        slots,
+        processor,
+        k,
+        wanted_send(kind),
+        source,
+    )
+}
+
+// The operand reads the source of a gate of the given kind.
+fn reads_source(
+    table: &[u8],
+    processors: u16,
+    slots: u16,
+    processor: u16,
+    slot: u16,
+    a: Operand,
+    kind: u16,
+    source: u16,
+) -> bool
+    requires { ⌜ Laid (now table) processors slots ⌝ }
+    requires { ⌜ (processor < processors) × (locationOf a < slots) ⌝ }
+    ensures { λ r. ⌜ r ≡ reads (moduleOf (now (table .entry))) processor slot (partOf a) (locationOf a) kind source ⌝ }
+{
+    match a {
+        Operand::LocalEarlier(k) => local_earlier_right(
+            table,
+            processors,
+            slots,
+            processor,
+            slot,
+            k as u16,
+            kind,
+            source,
+        ),
+        Operand::LocalPresent(k) => local_present_right(
+            table,
+            processors,
+            slots,
+            processor,
+            slot,
+            k as u16,
+            kind,
+            source,
+        ),
+        Operand::SwitchEarlier(k) => switch_earlier_right(
+            table,
+            processors,
+            slots,
+            processor,
+            slot,
+            k as u16,
+            kind,
+            source,
+        ),
+        Operand::SwitchPresent(k) => switch_present_right(
+            table,
+            processors,
+            slots,
+            processor,
+            slot,
+            k as u16,
+            kind,
+            source,
+        ),
+        Operand::None => false,
+    }
+}
+
+fn is_none(a: Operand) -> bool
+    ensures { λ r. ⌜ r ≡ eqb (partOf a) noPart ⌝ }
+{
+    let Operand::None = a else {
+        return false;
+    };
+    true
+}
+
+// 23: operand j of the line of a processor and a slot, where the signal and the operand are the line's.
+// "An operand whose source is 0, and all operands of inputs and empty slots, must be none."
+fn operand_right(
+    net: &[u8],
+    table: &[u8],
+    processors: u16,
+    slots: u16,
+    processor: u16,
+    slot: u16,
+    signal: u16,
+    j: usize,
+    a: Operand,
+) -> bool
+    requires { ⌜ Laid (now table) processors slots ⌝ }
+    requires { ⌜ netCheck 4096 (now net) ≡ pass ⌝ }
+    requires { ⌜ (processor < processors) × (slot < slots) × (j < 4) ⌝ }
+    requires { ⌜ (signal ≡ moduleOf (now table) .signal processor slot) × (signal ≤ netSize (now net)) × (a ≡ operandNamed (moduleOf (now table)) processor slot j) ⌝ }
+    ensures { λ r. ⌜ r ≡ operandRight (network (now (net .entry))) (moduleOf (now (table .entry))) processor slot j ⌝ }
+{
+    if signal == 0 {
+        return is_none(a);
+    }
+    let place = 73 * (signal as usize);
+    let kind = fields::number_at(net, place);
+    if kind == 1 {
+        return is_none(a);
+    }
+    let source = fields::number_at(net, place + 6 * (8 + j));
+    if source == 0 {
+        return is_none(a);
+    }
+    reads_source(table, processors, slots, processor, slot, a, kind, source)
+}
+
+// 23: the four operands of the line of a processor and a slot.
+fn operands_right(
+    net: &[u8],
+    table: &[u8],
+    processors: u16,
+    slots: u16,
+    processor: u16,
+    slot: u16,
+) -> bool
+    requires { ⌜ Laid (now table) processors slots ⌝ }
+    requires { ⌜ netCheck 4096 (now net) ≡ pass ⌝ }
+    requires { ⌜ SignalsWithin (now table) processors slots (netSize (now net)) ⌝ }
+    requires { ⌜ (processor < processors) × (slot < slots) ⌝ }
+    ensures { λ r. ⌜ r ≡ all 4 (operandRight (network (now (net .entry))) (moduleOf (now (table .entry))) processor slot) ⌝ }
+{
+    let line = instruction_at(table, processors, slots, processor, slot);
+    let signal = line.signal;
+    let a1 = line.a1;
+    let a2 = line.a2;
+    let a3 = line.a3;
+    let a4 = line.a4;
+    if !operand_right(
+        net,
+        table,
+        processors,
+        slots,
+        processor,
+        slot,
+        signal,
+        0,
+        a1,
+    ) {
+        return false;
+    }
+    if !operand_right(
+        net,
+        table,
+        processors,
+        slots,
+        processor,
+        slot,
+        signal,
+        1,
+        a2,
+    ) {
+        return false;
+    }
+    if !operand_right(
+        net,
+        table,
+        processors,
+        slots,
+        processor,
+        slot,
+        signal,
+        2,
+        a3,
+    ) {
+        return false;
+    }
+    operand_right(
+        net,
+        table,
+        processors,
+        slots,
+        processor,
+        slot,
+        signal,
+        3,
+        a4,
+    )
+}
+
+// 23, over all lines.
+fn check_operands(net: &[u8], table: &[u8], processors: u16, slots: u16) -> ModAnswer
+    requires { ⌜ Laid (now table) processors slots ⌝ }
+    requires { ⌜ netCheck 4096 (now net) ≡ pass ⌝ }
+    requires { ⌜ SignalsWithin (now table) processors slots (netSize (now net)) ⌝ }
+    ensures { λ r. ⌜ Answers processors slots (operands (network (now (net .entry))) (now (table .entry))) r ⌝ }
+{
+    let lines = line_count(processors, slots);
+    let mut k: usize = 0;
+    while k < lines {
+        let processor = processor_of(k, slots);
+        let slot = slot_of(k, slots);
+        if !operands_right(net, table, processors, slots, processor, slot) {
+            return ModAnswer::WrongOperand((k + 2) as u16);
+        }
+        k += 1;
+    }
+    ModAnswer::Accepted(processors, slots)
+}
+
+// MOD's check, NET being accepted: 20 and 21 by line, then 22, 24, 25 and 23, each over all lines.
+pub fn check_mod(net: &[u8], table: &[u8]) -> ModAnswer
+    requires { ⌜ netCheck 4096 (now net) ≡ pass ⌝ }
+    ensures { λ r. ⌜ Answers (modProcessors (now (table .entry))) (modSlots (now (table .entry))) (modCheck (network (now (net .entry))) (now (table .entry))) r ⌝ }
+{
+    let header = check_header(table);
+    let ModAnswer::Accepted(processors, slots) = header else {
+        return header;
+    };
+    let signals = fields::number_at(net, 6);
+    let lines = check_lines(table, signals, processors, slots);
+    let ModAnswer::Accepted(_, _) = lines else {
+        return lines;
+    };
+    let surplus = check_surplus(table, processors, slots);
+    let ModAnswer::Accepted(_, _) = surplus else {
+        return surplus;
+    };
+    let placements = check_placements(table, signals, processors, slots);
+    let ModAnswer::Accepted(_, _) = placements else {
+        return placements;
+    };
+    let sends = check_sends(table, processors, slots);
+    let ModAnswer::Accepted(_, _) = sends else {
+        return sends;
+    };
+    let receptions = check_receptions(table, processors, slots);
+    let ModAnswer::Accepted(_, _) = receptions else {
+        return receptions;
+    };
+    check_operands(net, table, processors, slots)
+}
