@@ -102,10 +102,11 @@ def rank_order_groups(network):
                 if path:
                     low[path[-1][0]] = min(low[path[-1][0]], low[number])
                 if low[number] == found[number]:
-                    at = waiting.index(number) if waiting[-1] != number else len(waiting) - 1
-                    groups.append(waiting[at:])
-                    del waiting[at:]
-                    grouped.update(groups[-1])
+                    group = [waiting.pop()]
+                    while group[-1] != number:
+                        group.append(waiting.pop())
+                    groups.append(group)
+                    grouped.update(group)
     return groups
 
 

@@ -16,7 +16,7 @@ drop-take (suc i) zero l = let e : 0 - suc i ≡ 0 = omega arith in rw e
 drop-take (suc i) (suc m) [] = sym (take-nil (suc m - suc i))
 drop-take (suc i) (suc m) (x ∷ xs) = let e : suc m - suc i ≡ m - i = omega arith in rw e (drop-take i m xs)
 
-all-same : (p q : ℕ → Bool) (n : ℕ) → ((k : ℕ) → k < n → p k ≡ q k) → all n p ≡ all n q
+pub all-same : (p q : ℕ → Bool) (n : ℕ) → ((k : ℕ) → k < n → p k ≡ q k) → all n p ≡ all n q
 unfolding all
 all-same p q zero h = refl
 all-same p q (suc n) h = rw (all-same p q n (λ k l. h k (omega arith)), h n (omega arith))

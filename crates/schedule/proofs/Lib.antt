@@ -7,4 +7,4 @@ pub mod Told
 pub mod Named
 pub mod Sources
 pub mod Stages
-pub mod Surplus
+pub mod Prefix

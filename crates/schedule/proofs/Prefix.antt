@@ -1,17 +1,18 @@
--- Bytes past the longest MOD, 85 × 4097 = 348245, and one more change no answer: no check looks at them before the surplus is refused.
-use Prim.Native.Nat.{ℕ, zero, suc, _+_, _*_, _/_, _%_, _<_, _≤_}
+-- A MOD has at most 85 × 4097 = 348,245 bytes, and one byte more is surplus: what follows that one changes no answer.
+use Prim.Native.Nat.{ℕ, _+_, _*_, _/_, _%_, _<_, _≤_}
 use mathlib.Core.Path.{_≡_, refl, sym, ap, _∙_}
 use mathlib.Core.Bool.{Bool, true, false}
-use mathlib.Core.List.{List, [], _∷_}
+use mathlib.Core.List.{List}
 use native.Mathlib.Omega.{arith}
 use native.Mathlib.Nat.{mul-le-mul}
 use lib.Dec.{eqb, leb}
-use lib.ListN.{length, getD, take, drop}
-use lib.Seq.{length-take-le, take-all, take-take, getD-take}
+use lib.ListN.{length, take}
+use lib.Seq.{length-take-le, take-all}
 use borrow.Author.Tests.{leb-true, leb-false, lt-leb}
 use Rattle.logic.specs.Test.{_and_, all}
-use Rattle.fields.specs.Field.{columnsAt, isField, isFieldAt, number, numberAt}
+use Rattle.fields.specs.Field.{numberAt}
 use Rattle.fields.specs.Line.{isLineAt}
+use Rattle.fields.proofs.Taken.{all-same, number-take, line-take}
 use Rattle.model.specs.Refusal.{Check, pass, fail, first, unless, firstBelow}
 use Rattle.model.specs.Network.{Network}
 use Rattle.model.specs.Schedule.{modLine, modField, modProcessors, modSlots, modIndex, moduleOf, modHeader, modSlot, lineLayout, eachLine, modSurplus, modCheck}
@@ -21,38 +22,19 @@ use Rattle.schedule.specs.Layout.{lineAt, operandsAt, pairLaid, senderLa
 use Rattle.schedule.proofs.Lines.{line-judged, line-index, below-same}
 use Rattle.schedule.proofs.Stages.{header-sized}
 
--- a piece that ends before the cut
-piece-kept : (at n long : ℕ) (l : List ℕ) → at + n ≤ long → take n (drop at (take long l)) ≡ take n (drop at l)
-piece-kept zero n long l h = take-take n long l (omega arith)
-piece-kept (suc at) n zero l h = absurd (omega arith)
-piece-kept (suc at) n (suc long) [] h = refl
-piece-kept (suc at) n (suc long) (x ∷ l) h = piece-kept at n long l (omega arith)
-
-all-same : (n : ℕ) (f g : ℕ → Bool) → ((k : ℕ) → k < n → f k ≡ g k) → all n f ≡ all n g
-unfolding all
-all-same zero f g h = refl
-all-same (suc n) f g h = rw (all-same n f g (λ k l. h k (omega arith)), h n (omega arith))
-
 module _ (l : List ℕ) (long : ℕ) (enough : 348246 ≤ long) where
   cut : List ℕ
   cut = take long l
 
-  columns-kept : (at : ℕ) → at + 6 ≤ 348246 → columnsAt cut at ≡ columnsAt l at
-  unfolding cut
-  columns-kept at h = piece-kept at 6 long l (omega arith)
-
   -- the line at a place, one of the first 4097
   module _ (at : ℕ) (low : at + 85 ≤ 348246) where
     line-kept : isLineAt cut at 14 ≡ isLineAt l at 14
-    unfolding isLineAt cut
-    line-kept =
-        let fields : all 14 (λ k. isFieldAt cut (at + 6 * k)) ≡ all 14 (λ k. isFieldAt l (at + 6 * k)) =
-        all-same 14 (λ k. isFieldAt cut (at + 6 * k)) (λ k. isFieldAt l (at + 6 * k)) (λ k h. ap isField (columns-kept (at + 6 * k) (omega arith))) in
-        let end : getD cut (at + 84) 0 ≡ getD l (at + 84) 0 = getD-take long l (at + 84) 0 (omega arith) in
-        rw (fields, end)
+    unfolding cut
+    line-kept = line-take long l at 14 (omega arith)
 
     field-kept : (x : ℕ) → x ≤ at + 79 → numberAt cut x ≡ numberAt l x
-    field-kept x h = ap number (columns-kept x (omega arith))
+    unfolding cut
+    field-kept x h = number-take long l x (omega arith)
 
     judged-kept : (p i size processors slots : ℕ) → lineAt cut at p i size processors slots ≡ lineAt l at p i size processors slots
     unfolding lineAt operandsAt
@@ -85,7 +67,7 @@ module _ (l : List ℕ) (long : ℕ) (enough : 348246 ≤ long) where
   unfolding modHeader
   header-kept =
       let zeros : all 12 (λ k. eqb (modField cut 0 (2 + k)) 0) ≡ all 12 (λ k. eqb (modField l 0 (2 + k)) 0) =
-      all-same 12 (λ k. eqb (modField cut 0 (2 + k)) 0) (λ k. eqb (modField l 0 (2 + k)) 0)
+      all-same (λ k. eqb (modField cut 0 (2 + k)) 0) (λ k. eqb (modField l 0 (2 + k)) 0) 12
       (λ k h. ap (λ (x : ℕ). eqb x 0) (field-kept 0 (omega arith) (85 * 0 + 6 * (2 + k)) (omega arith))) in
       rw (line-kept 0 (omega arith), processors-kept, slots-kept, zeros)
 
@@ -143,6 +125,6 @@ module _ (l : List ℕ) (long : ℕ) (enough : 348246 ≤ long) where
       go true e = ap (modCheck n) (take-all long l (leb-true (length l) long e))
       go false e = after-header (leb-false (length l) long e) (modHeader l) refl
 
-pub bytes-past : (n : Network) (table : List ℕ) → modCheck n (take 348246 table) ≡ modCheck n table
+pub mod-prefix : (n : Network) (table : List ℕ) → modCheck n (take 348246 table) ≡ modCheck n table
 unfolding cut
-bytes-past n table = cut-kept table 348246 (omega arith) n
+mod-prefix n table = cut-kept table 348246 (omega arith) n

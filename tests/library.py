@@ -1,0 +1,46 @@
+"""The proved code, to be called from Python."""
+import ctypes
+import os
+import shutil
+import subprocess
+import tempfile
+from pathlib import Path
+
+root = Path(__file__).resolve().parent.parent
+
+
+def archive(crate):
+    """The archive of a crate; `rt staticlib` writes it if it is missing or older than a source."""
+    path = root / "target" / "staticlib" / f"lib{crate}.a"
+    newest = max(source.stat().st_mtime for source in [root / "crates.txt", *(root / "crates").rglob("*")])
+    if not path.exists() or path.stat().st_mtime < newest:
+        rt = shutil.which("rt") or "/opt/rattle/bin/rt"
+        done = subprocess.run([rt, "staticlib", crate], cwd=root, capture_output=True, text=True)
+        if done.returncode != 0 or not path.exists():
+            raise OSError(f"{done.stdout}{done.stderr}rt staticlib {crate}: exit status {done.returncode}")
+        os.utime(path, (newest, newest))  # it may have left the file alone, if that was right as it stood
+    return path
+
+
+def load(crate):
+    """The functions of a crate that C can call. OSError, with what was printed, if they cannot be had."""
+    with tempfile.TemporaryDirectory() as folder:
+        shared = Path(folder) / f"{crate}.so"
+        done = subprocess.run(["gcc", "-shared", "-o", shared, "-Wl,--no-undefined", "-Wl,--whole-archive",
+                               archive(crate), "-Wl,--no-whole-archive"], capture_output=True, text=True)
+        if done.returncode != 0:
+            raise OSError(f"{done.stderr}gcc: exit status {done.returncode}")
+        return ctypes.CDLL(str(shared))
+
+
+def check_files(library):
+    """cavundir_check_files, answering as tests/independent does: None, or a refusal's number and returned value."""
+    call = library.cavundir_check_files
+    call.argtypes = [ctypes.c_char_p, ctypes.c_size_t] * 3  # a slice is a pointer and a length
+    call.restype = ctypes.c_uint64
+
+    def check(net, mod, stim):
+        answer = call(net, len(net), mod, len(mod), stim, len(stim))
+        return divmod(answer, 65536) if answer else None
+
+    return check
