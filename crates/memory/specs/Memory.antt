@@ -1,0 +1,44 @@
+-- The bytes that hold the machine's memory: for each of 16 processors the four parts in the order of their numbers (01, One cycle of the
+-- machine), 256 locations each, and then 256 zeros, which an operand that is none reads.
+use Prim.Native.Nat.{ℕ, _+_, _*_, _<_}
+use mathlib.Core.Path.{_≡_}
+use mathlib.Core.List.{List}
+use lib.ListN.{length, getD}
+use Rattle.model.specs.Module.{localEarlier, localPresent, switchEarlier, switchPresent}
+use Rattle.model.specs.Machine.{Memory, nothing}
+use Rattle.operands.specs.declared.Operand.{Operand}
+use Rattle.operands.specs.declared.Operand.the-variants.{LocalEarlier, LocalPresent, SwitchEarlier, SwitchPresent, None}
+
+abbrev pub memoryLength : ℕ
+memoryLength = 20480
+
+-- the fifth part, which is none
+abbrev pub blank : ℕ
+blank = 4
+
+-- the byte of location k of a part of processor p
+abbrev pub place : ℕ → ℕ → ℕ → ℕ
+place p part k = 1280 * p + 256 * part + k
+
+-- the memory that bytes hold: "earlier" and "present" are roles
+unfoldable pub memoryOf : List ℕ → Memory
+memoryOf bytes =
+    record {
+      earlierLocal = λ p k. getD bytes (place p localEarlier k) 0;
+      presentLocal = λ p k. getD bytes (place p localPresent k) 0;
+      earlierSwitch = λ p k. getD bytes (place p switchEarlier k) 0;
+      presentSwitch = λ p k. getD bytes (place p switchPresent k) 0;
+    }
+
+-- the part that an operand is fetched from
+abbrev pub fetchedPart : Operand → ℕ
+fetchedPart (LocalEarlier k) = localEarlier
+fetchedPart (LocalPresent k) = localPresent
+fetchedPart (SwitchEarlier k) = switchEarlier
+fetchedPart (SwitchPresent k) = switchPresent
+fetchedPart None = blank
+
+-- the bytes are of the right number, and the fifth parts are blank
+pub record MemoryBytes (bytes : List ℕ) : Type 0 where
+  pub size : length bytes ≡ memoryLength
+  pub blanks : (p : ℕ) → p < 16 → getD bytes (place p blank 0) 0 ≡ nothing
