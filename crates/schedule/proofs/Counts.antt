@@ -1,7 +1,7 @@
 -- Refusal 22 by counting: the sum over processors and slots is the sum over the lines, and an array that counts each line's signal has
 -- it at every signal.
 use Prim.Native.Nat.{ℕ, zero, suc, _+_, _*_, _/_, _%_, _<_, _≤_}
-use mathlib.Core.Path.{_≡_, refl, sym, subst, ap, _∙_}
+use mathlib.Core.Path.{_≡_, refl, sym, ap, _∙_}
 use mathlib.Core.Bool.{Bool, true, false}
 use mathlib.Core.List.{List}
 use native.Mathlib.Omega.{arith}
@@ -13,7 +13,7 @@ use lib.ListN.{length, getD, set}
 use lib.Seq.{getD-set-same, getD-set-other}
 use borrow.Author.Tests.{eq-eqb, ne-eqb}
 use Rattle.logic.specs.Test.{one, total}
-use Rattle.model.specs.Module.{Module, placements}
+use Rattle.model.specs.Module.{placements}
 use Rattle.model.specs.Schedule.{modField, modProcessors, modSlots, modIndex, moduleOf, placed}
 use Rattle.schedule.specs.Answer.{Sized}
 use Rattle.model.specs.Refusal.{Check, pass, fail, unless, firstBelow}

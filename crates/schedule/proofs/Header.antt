@@ -1,10 +1,10 @@
 -- Line 1: its fields are right where it is, and what its check answers.
 use Prim.Native.Nat.{ℕ, _+_, _*_, _<_, _≤_}
-use mathlib.Core.Path.{_≡_, refl, sym, subst, ap}
+use mathlib.Core.Path.{_≡_, refl, ap}
 use mathlib.Core.Bool.{Bool, true, false}
 use mathlib.Core.List.{List}
 use native.Mathlib.Omega.{arith}
-use lib.Dec.{eqb, leb}
+use lib.Dec.{eqb}
 use borrow.Author.Tests.{eq-eqb, ne-eqb, le-leb, lt-leb}
 use Rattle.logic.specs.Test.{_and_, all}
 use Rattle.logic.proofs.Tests.{all-more, all-fails}
@@ -14,7 +14,7 @@ use Rattle.fields.specs.Line.{isLineAt, lineLength}
 use Rattle.fields.specs.Reading.{readLine}
 use Rattle.fields.specs.declared.Line.{Line}
 use Rattle.fields.specs.declared.Line.the-variants.{Next, Broken}
-use Rattle.model.specs.Refusal.{Check, fail, pass, first, unless}
+use Rattle.model.specs.Refusal.{fail, first, unless}
 use Rattle.model.specs.Schedule.{modField, modProcessors, modSlots, modHeader}
 use Rattle.model.proofs.RightLine.{line-field}
 

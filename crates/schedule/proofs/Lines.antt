@@ -1,6 +1,6 @@
 -- The lines after the first: line k of them is that of processor k / C and slot k % C, and what its check answers.
 use Prim.Native.Nat.{ℕ, zero, suc, _+_, _*_, _/_, _%_, _<_, _≤_}
-use mathlib.Core.Path.{_≡_, refl, sym, subst, ap, _∙_}
+use mathlib.Core.Path.{_≡_, refl, sym, ap, _∙_}
 use mathlib.Core.Bool.{Bool, true, false}
 use mathlib.Core.List.{List}
 use native.Mathlib.Omega.{arith}
@@ -11,18 +11,18 @@ use lib.ListN.{length, getD}
 use borrow.Author.Tests.{le-leb, lt-leb}
 use Rattle.logic.specs.Test.{_and_, all}
 use Rattle.logic.proofs.Tests.{and-true, all-more, all-fails}
-use Rattle.fields.specs.Field.{isFieldAt, numberAt}
+use Rattle.fields.specs.Field.{isFieldAt}
 use Rattle.fields.specs.Line.{isLineAt}
 use Rattle.model.specs.Refusal.{Check, fail, pass, first, unless, firstBelow}
 use Rattle.model.specs.Network.{Network}
-use Rattle.model.specs.Module.{Module, switchPresent, localPresent, operandRight}
-use Rattle.model.specs.Schedule.{modLine, modField, modProcessors, modSlots, modIndex, moduleOf, locationLayout, operandLayout, sendLayout, senderLayout, lineLayout, modSlot, eachLine, modSurplus, operands}
+use Rattle.model.specs.Module.{operandRight}
+use Rattle.model.specs.Schedule.{modLine, modProcessors, modSlots, modIndex, moduleOf, locationLayout, operandLayout, sendLayout, senderLayout, lineLayout, modSlot, eachLine, modSurplus, operands}
 use Rattle.model.proofs.Refusals.{below-pass, below-first, first-both}
 use Rattle.fields.specs.Reading.{readField}
 use Rattle.fields.specs.declared.Field.the-variants.{Number, Misformed}
 use Rattle.fields.proofs.Lines.{field-right, field-wrong}
 use Rattle.schedule.specs.Answer.{Sized}
-use Rattle.schedule.specs.Layout.{pairLaid, pairAt, operandsAt, senderLaid, lineAt}
+use Rattle.schedule.specs.Layout.{pairLaid, operandsAt, senderLaid, lineAt}
 use Rattle.schedule.proofs.Judged.{and-false}
 
 pub all-4 : (f : ℕ → Bool) → all 4 f ≡ f 0 and f 1 and f 2 and f 3

@@ -1,24 +1,22 @@
 -- What a right line's operands and send name: their pair again, and so the conditions of 24, 25 and 23 case by case.
-use Prim.Native.Nat.{ℕ, _+_, _*_, _<_, _≤_}
-use mathlib.Core.Path.{_≡_, refl, sym, subst, ap, _∙_}
+use Prim.Native.Nat.{ℕ, _<_, _≤_}
+use mathlib.Core.Path.{_≡_, refl, sym, ap, _∙_}
 use mathlib.Core.Bool.{Bool, true, false, not}
 use mathlib.Core.List.{List}
 use mathlib.Core.Logic.{_⊎_, inl, inr, ⊎-elim}
 use native.Mathlib.Omega.{arith}
-use lib.Dec.{eqb, leb, ltb}
+use lib.Dec.{eqb}
 use borrow.Author.Tests.{eq-eqb, ne-eqb, lt-ltb, le-ltb}
 use Rattle.logic.specs.Test.{_and_, _or_}
-use Rattle.logic.specs.Choice.{if_then_else_}
-use Rattle.model.specs.Module.{Module, noPart, noSender, sentPart, sentSignal, received, sendRight, receptionRight, reads, mustBeNone, operandRight}
-use Rattle.model.specs.Schedule.{modProcessors, modSlots, modField, modIndex, moduleOf}
-use Rattle.model.proofs.Accepted.{Located, SlotRight}
+use Rattle.model.specs.Module.{Module, noPart, noSender, received, sendRight, receptionRight}
+use Rattle.model.specs.Schedule.{modProcessors, modField, modIndex, moduleOf}
 use Rattle.operands.specs.Operand.{operandOf, partOf, locationOf}
 use Rattle.operands.specs.declared.Operand.{Operand}
 use Rattle.operands.specs.declared.Operand.the-variants.{LocalEarlier, LocalPresent, SwitchEarlier, SwitchPresent, None}
 use Rattle.operands.proofs.Pairs.{part-of-pair, location-of-pair}
 use Rattle.schedule.specs.Answer.{Laid}
 use Rattle.schedule.specs.Instruction.{operandNamed, sendNamed}
-use Rattle.schedule.proofs.Judged.{and-false, and-yes, or-yes, or-no}
+use Rattle.schedule.proofs.Judged.{and-false, and-yes}
 use Rattle.schedule.proofs.Slots.{slot-laid}
 
 -- an operand has a pair

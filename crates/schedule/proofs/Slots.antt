@@ -1,28 +1,26 @@
 -- What the lines' check leaves: each line after the first is right (`SlotRight`), by processor and slot or by its number, and so are the
 -- fields that the later checks read.
 use Prim.Native.Nat.{ℕ, suc, _+_, _*_, _/_, _%_, _<_, _≤_}
-use mathlib.Core.Path.{_≡_, refl, sym, subst, subst₂, ap, _∙_}
-use mathlib.Core.Bool.{Bool, true, false, not}
+use mathlib.Core.Path.{_≡_, subst₂, ap, _∙_}
+use mathlib.Core.Bool.{true}
 use mathlib.Core.List.{List}
 use mathlib.Core.Logic.{_⊎_, inl, inr, ⊎-elim}
 use native.Mathlib.Omega.{arith}
 use native.Mathlib.Nat.{suc-mul, mul-le-mul-right, mul-le-mul, div-eq-of-lt, mod-eq-of-lt, mul-add-div-right, mul-add-mod-self-right, div-lt-iff-lt-mul, mod-lt}
-use lib.Dec.{eqb, leb, ltb}
-use lib.ListN.{length}
+use lib.Dec.{eqb, leb}
 use borrow.Author.Tests.{eqb-true, eqb-false, leb-true, ltb-true, not-true}
 use Rattle.logic.specs.Test.{_and_, _or_}
 use Rattle.logic.proofs.Tests.{and-left, and-right, all-at, or-cases, or-otherwise}
 use Rattle.fields.specs.Field.{isFieldAt, numberAt}
 use Rattle.fields.specs.Line.{isLineAt}
-use Rattle.model.specs.Refusal.{Check, pass, first, unless, firstBelow}
+use Rattle.model.specs.Refusal.{pass, first}
 use Rattle.model.specs.Network.{Network}
-use Rattle.model.specs.Module.{Module, At, noPart}
+use Rattle.model.specs.Module.{Module, noPart}
 use Rattle.model.specs.Schedule.{modLine, modField, modProcessors, modSlots, modIndex, moduleOf, locationLayout, operandLayout, sendLayout, senderLayout, lineLayout, modSlot, eachLine}
 use Rattle.model.proofs.Refusals.{first-left, first-right, unless-true, below-pass}
-use Rattle.model.proofs.RightLine.{line-within}
 use Rattle.model.proofs.Accepted.{Located, SlotRight}
-use Rattle.operands.specs.Operand.{operandOf, partOf, locationOf}
-use Rattle.schedule.specs.Answer.{Sized, Laid}
+use Rattle.operands.specs.Operand.{operandOf}
+use Rattle.schedule.specs.Answer.{Laid}
 use Rattle.schedule.proofs.Header.{field-of-line}
 use Rattle.schedule.proofs.Lines.{line-index, line-total}
 

@@ -1,6 +1,6 @@
 -- Refusal 23, part by part: what each part wants of the location that it names.
 use Prim.Native.Nat.{ℕ, _+_, _*_, _<_, _≤_}
-use mathlib.Core.Path.{_≡_, refl, sym, subst, ap, _∙_}
+use mathlib.Core.Path.{_≡_, refl, sym, ap, _∙_}
 use mathlib.Core.Bool.{Bool, true, false, not}
 use mathlib.Core.List.{List}
 use native.Mathlib.Omega.{arith}
@@ -10,8 +10,8 @@ use borrow.Author.Tests.{eq-eqb, ne-eqb}
 use Rattle.logic.specs.Test.{_and_, _or_}
 use Rattle.logic.specs.Choice.{if_then_else_}
 use Rattle.model.specs.Network.{Network, input, unitDelay, rankOrder}
-use Rattle.model.specs.Module.{Module, localEarlier, localPresent, switchEarlier, switchPresent, noPart, noSender, sentPart, sentSignal, received, reads, mustBeNone, operandRight}
-use Rattle.model.specs.Netlist.{netField, netSize, netLine, network, netCheck}
+use Rattle.model.specs.Module.{Module, localEarlier, localPresent, switchEarlier, switchPresent, noPart, noSender, reads, mustBeNone, operandRight}
+use Rattle.model.specs.Netlist.{netSize, netLine, network, netCheck}
 use Rattle.model.specs.Refusal.{pass}
 use Rattle.model.proofs.Accepted.{net-lines}
 use Rattle.fields.specs.Field.{numberAt, isFieldAt}

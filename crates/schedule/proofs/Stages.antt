@@ -1,21 +1,17 @@
 -- The checks in their order: an answer that refuses is the whole check's answer, and one that accepts leaves what the next check wants.
-use Prim.Native.Nat.{ℕ, _+_, _<_, _≤_}
+use Prim.Native.Nat.{ℕ, _≤_}
 use mathlib.Core.Path.{_≡_, refl, sym, ap, _∙_}
-use mathlib.Core.Bool.{Bool, true}
 use mathlib.Core.List.{List}
-use native.Mathlib.Omega.{arith}
-use lib.Dec.{leb}
 use borrow.Author.Tests.{leb-true}
 use Rattle.logic.specs.Test.{_and_}
 use Rattle.logic.proofs.Tests.{and-left, and-right}
 use Rattle.fields.specs.Field.{numberAt}
-use Rattle.model.specs.Refusal.{Check, pass, fail, first, unless}
-use Rattle.model.specs.Network.{Network}
+use Rattle.model.specs.Refusal.{Check, pass, first}
 use Rattle.model.specs.Netlist.{netSize, network, netCheck}
-use Rattle.model.specs.Schedule.{modProcessors, modSlots, moduleOf, modHeader, modSlot, eachLine}
-use Rattle.model.proofs.Refusals.{first-left, first-right, first-second, first-stays, unless-true}
+use Rattle.model.specs.Schedule.{modProcessors, modSlots, modHeader, modSlot, eachLine}
+use Rattle.model.proofs.Refusals.{first-right, first-second, first-stays, unless-true}
 use Rattle.model.proofs.Accepted.{net-size}
-use Rattle.schedule.specs.Answer.{modRefusal, hasSizes, Answers, Sized, Laid, SignalsWithin}
+use Rattle.schedule.specs.Answer.{modRefusal, Answers, Sized, Laid, SignalsWithin}
 use Rattle.schedule.specs.declared.ModAnswer.{ModAnswer}
 use Rattle.schedule.specs.declared.ModAnswer.the-variants.{Accepted, Misformed, Layout, Placement, Send, Reception, WrongOperand}
 use Rattle.schedule.proofs.Slots.{slot-laid}

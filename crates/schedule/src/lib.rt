@@ -4,7 +4,7 @@ use fields::Field;
 use fields::Line;
 use operands::Operand;
 ghost use mathlib.Core.Path.{_≡_};
-ghost use mathlib.Core.Bool.{Bool, true, false};
+ghost use mathlib.Core.Bool.{true, false};
 ghost use Prim.Native.Nat.{ℕ, _+_, _*_, _/_, _%_, _<_, _≤_};
 ghost use lib.ListN.{length, getD};
 ghost use lib.Dec.{eqb};
@@ -484,18 +484,18 @@ fn local_earlier_right(
     slots: u16,
     processor: u16,
     slot: u16,
-    k: u16,
+    location: u16,
     kind: u16,
     source: u16,
 ) -> bool
     requires { ⌜ Laid (now table) processors slots ⌝ }
-    requires { ⌜ (processor < processors) × (k < slots) ⌝ }
-    ensures { λ r. ⌜ r ≡ reads (moduleOf (now (table .entry))) processor slot localEarlier k kind source ⌝ }
+    requires { ⌜ (processor < processors) × (location < slots) ⌝ }
+    ensures { λ r. ⌜ r ≡ reads (moduleOf (now (table .entry))) processor slot localEarlier location kind source ⌝ }
 {
     if kind != 2 {
         return false;
     }
-    signal_at(table, processors, slots, processor, k) == source
+    signal_at(table, processors, slots, processor, location) == source
 }
 
 // "Local 1: k < i, the signal at k is the source, gate rank-order."
@@ -505,21 +505,21 @@ fn local_present_right(
     slots: u16,
     processor: u16,
     slot: u16,
-    k: u16,
+    location: u16,
     kind: u16,
     source: u16,
 ) -> bool
     requires { ⌜ Laid (now table) processors slots ⌝ }
-    requires { ⌜ (processor < processors) × (k < slots) ⌝ }
-    ensures { λ r. ⌜ r ≡ reads (moduleOf (now (table .entry))) processor slot localPresent k kind source ⌝ }
+    requires { ⌜ (processor < processors) × (location < slots) ⌝ }
+    ensures { λ r. ⌜ r ≡ reads (moduleOf (now (table .entry))) processor slot localPresent location kind source ⌝ }
 {
     if kind != 3 {
         return false;
     }
-    if slot <= k {
+    if slot <= location {
         return false;
     }
-    signal_at(table, processors, slots, processor, k) == source
+    signal_at(table, processors, slots, processor, location) == source
 }
 
 // "Part 2 wants a send of part 1, gate unit-delay."

@@ -1,4 +1,4 @@
-use mathlib.Core.Path.{_≡_, sym, _∙_}
+use mathlib.Core.Path.{sym, _∙_}
 use native.Mathlib.Omega.{arith}
 use Rattle.model.specs.Refusal.{unless}
 use Rattle.schedule.proofs.Header.{field-of-line, line-read, header-broken, no-processors, many-processors, no-slots, many-slots, header-zeros}
@@ -16,60 +16,124 @@ enum-told-2 : tie.Need-enum-told-2
 enum-told-2 c = search needs
 
 returns : tie.Need-returns
-returns c = record { refusal = sym (header-broken _ (sym (c .before .before .read-line .ensures) ∙ c .enum-told2 .given .1)); sizes = tt }
+returns c =
+    let read-line = c .before .before .read-line in
+    let enum-told2 = c .enum-told2 in
+    record { refusal = sym (header-broken _ (sym (read-line .ensures) ∙ enum-told2 .given .1)); sizes = tt }
 
 number-at-requires : tie.Need-number-at-requires
-number-at-requires c κs = field-of-line _ 0 14 (line-read _ 0 14 _ (sym (c .before .before .read-line .ensures) ∙ c .enum-told .given .1)) 0 0 (omega arith) (omega arith)
+number-at-requires c κs =
+    let read-line = c .before .before .read-line in
+    let enum-told = c .enum-told in
+    let line = sym (read-line .ensures) ∙ enum-told .given .1 in
+    let right = line-read _ 0 14 _ line in
+    field-of-line _ 0 14 right 0 0 (omega arith) (omega arith)
 
 number-at-requires-2 : tie.Need-number-at-requires-2
-number-at-requires-2 c κs = field-of-line _ 0 14 (line-read _ 0 14 _ (sym (c .before .before .before .read-line .ensures) ∙ c .before .enum-told .given .1)) 1 6 (omega arith) (omega arith)
+number-at-requires-2 c κs =
+    let read-line = c .before .before .before .read-line in
+    let enum-told = c .before .enum-told in
+    let line = sym (read-line .ensures) ∙ enum-told .given .1 in
+    let right = line-read _ 0 14 _ line in
+    field-of-line _ 0 14 right 1 6 (omega arith) (omega arith)
 
 returns-2 : tie.Need-returns-2
 returns-2 c =
-    record {
-      refusal = sym (no-processors _ _ _ _ (sym (c .before .before .before .before .before .read-line .ensures) ∙ c .before .before .before .enum-told .given .1) (c .before .before .number-at .ensures) (c .before .number-at2 .ensures) (c .if1 .taken));
-      sizes = tt;
-    }
+    let read-line = c .before .before .before .before .before .read-line in
+    let enum-told = c .before .before .before .enum-told in
+    let number-at = c .before .before .number-at in
+    let number-at2 = c .before .number-at2 in
+    let if1 = c .if1 in
+    let line = sym (read-line .ensures) ∙ enum-told .given .1 in
+    let processors = number-at .ensures in
+    let slots = number-at2 .ensures in
+    record { refusal = sym (no-processors _ _ _ _ line processors slots (if1 .taken)); sizes = tt }
 
 returns-3 : tie.Need-returns-3
 returns-3 c =
-    record {
-      refusal = sym (many-processors _ _ _ _ (sym (c .before .before .before .before .before .before .read-line .ensures) ∙ c .before .before .before .before .enum-told .given .1) (c .before .before .before .number-at .ensures) (c .before .before .number-at2 .ensures) (c .before .if1 .left) (c .if2 .taken));
-      sizes = tt;
-    }
+    let read-line = c .before .before .before .before .before .before .read-line in
+    let enum-told = c .before .before .before .before .enum-told in
+    let number-at = c .before .before .before .number-at in
+    let number-at2 = c .before .before .number-at2 in
+    let if1 = c .before .if1 in
+    let if2 = c .if2 in
+    let line = sym (read-line .ensures) ∙ enum-told .given .1 in
+    let processors = number-at .ensures in
+    let slots = number-at2 .ensures in
+    record { refusal = sym (many-processors _ _ _ _ line processors slots (if1 .left) (if2 .taken)); sizes = tt }
 
 returns-4 : tie.Need-returns-4
 returns-4 c =
-    record {
-      refusal = sym (no-slots _ _ _ _ (sym (c .before .before .before .before .before .before .before .read-line .ensures) ∙ c .before .before .before .before .before .enum-told .given .1) (c .before .before .before .before .number-at .ensures) (c .before .before .before .number-at2 .ensures) (c .before .before .if1 .left) (c .before .if2 .left) (c .if3 .taken));
-      sizes = tt;
-    }
+    let read-line = c .before .before .before .before .before .before .before .read-line in
+    let enum-told = c .before .before .before .before .before .enum-told in
+    let number-at = c .before .before .before .before .number-at in
+    let number-at2 = c .before .before .before .number-at2 in
+    let if1 = c .before .before .if1 in
+    let if2 = c .before .if2 in
+    let if3 = c .if3 in
+    let line = sym (read-line .ensures) ∙ enum-told .given .1 in
+    let processors = number-at .ensures in
+    let slots = number-at2 .ensures in
+    record { refusal = sym (no-slots _ _ _ _ line processors slots (if1 .left) (if2 .left) (if3 .taken)); sizes = tt }
 
 returns-5 : tie.Need-returns-5
 returns-5 c =
-    record {
-      refusal = sym (many-slots _ _ _ _ (sym (c .before .before .before .before .before .before .before .before .read-line .ensures) ∙ c .before .before .before .before .before .before .enum-told .given .1) (c .before .before .before .before .before .number-at .ensures) (c .before .before .before .before .number-at2 .ensures) (c .before .before .before .if1 .left) (c .before .before .if2 .left) (c .before .if3 .left) (c .if4 .taken));
-      sizes = tt;
-    }
+    let read-line = c .before .before .before .before .before .before .before .before .read-line in
+    let enum-told = c .before .before .before .before .before .before .enum-told in
+    let number-at = c .before .before .before .before .before .number-at in
+    let number-at2 = c .before .before .before .before .number-at2 in
+    let if1 = c .before .before .before .if1 in
+    let if2 = c .before .before .if2 in
+    let if3 = c .before .if3 in
+    let if4 = c .if4 in
+    let line = sym (read-line .ensures) ∙ enum-told .given .1 in
+    let processors = number-at .ensures in
+    let slots = number-at2 .ensures in
+    record { refusal = sym (many-slots _ _ _ _ line processors slots (if1 .left) (if2 .left) (if3 .left) (if4 .taken)); sizes = tt }
 
 twelve-zeros-requires : tie.Need-twelve-zeros-requires
-twelve-zeros-requires c κs = line-read _ 0 14 _ (sym (c .before .before .before .before .before .before .before .before .read-line .ensures) ∙ c .before .before .before .before .before .before .enum-told .given .1)
+twelve-zeros-requires c κs =
+    let read-line = c .before .before .before .before .before .before .before .before .read-line in
+    let enum-told = c .before .before .before .before .before .before .enum-told in
+    let line = sym (read-line .ensures) ∙ enum-told .given .1 in
+    let right = line-read _ 0 14 _ line in
+    right
 
 returns-6 : tie.Need-returns-6
 unfolding unless
 returns-6 c =
-    record {
-      refusal = sym (header-zeros _ _ _ _ (sym (c .before .before .before .before .before .before .before .before .before .before .read-line .ensures) ∙ c .before .before .before .before .before .before .before .before .enum-told .given .1) (c .before .before .before .before .before .before .before .number-at .ensures) (c .before .before .before .before .before .before .number-at2 .ensures) (c .before .before .before .before .before .if1 .left) (c .before .before .before .before .if2 .left) (c .before .before .before .if3 .left) (c .before .before .if4 .left) _ (c .before .twelve-zeros .ensures) ∙ (rw (c .if5 .taken)));
-      sizes = (c .before .before .before .before .before .before .before .number-at .ensures, c .before .before .before .before .before .before .number-at2 .ensures);
-    }
+    let read-line = c .before .before .before .before .before .before .before .before .before .before .read-line in
+    let enum-told = c .before .before .before .before .before .before .before .before .enum-told in
+    let number-at = c .before .before .before .before .before .before .before .number-at in
+    let number-at2 = c .before .before .before .before .before .before .number-at2 in
+    let if1 = c .before .before .before .before .before .if1 in
+    let if2 = c .before .before .before .before .if2 in
+    let if3 = c .before .before .before .if3 in
+    let twelve-zeros = c .before .twelve-zeros in
+    let if4 = c .before .before .if4 in
+    let if5 = c .if5 in
+    let line = sym (read-line .ensures) ∙ enum-told .given .1 in
+    let processors = number-at .ensures in
+    let slots = number-at2 .ensures in
+    record { refusal = sym (header-zeros _ _ _ _ line processors slots (if1 .left) (if2 .left) (if3 .left) (if4 .left) _ (twelve-zeros .ensures) ∙ (rw (if5 .taken))); sizes = (processors, slots) }
 
 returns-7 : tie.Need-returns-7
 unfolding unless
 returns-7 c =
-    record {
-      refusal = sym (header-zeros _ _ _ _ (sym (c .before .before .before .before .before .before .before .before .before .before .read-line .ensures) ∙ c .before .before .before .before .before .before .before .before .enum-told .given .1) (c .before .before .before .before .before .before .before .number-at .ensures) (c .before .before .before .before .before .before .number-at2 .ensures) (c .before .before .before .before .before .if1 .left) (c .before .before .before .before .if2 .left) (c .before .before .before .if3 .left) (c .before .before .if4 .left) _ (c .before .twelve-zeros .ensures) ∙ (rw (c .if5 .left)));
-      sizes = tt;
-    }
+    let read-line = c .before .before .before .before .before .before .before .before .before .before .read-line in
+    let enum-told = c .before .before .before .before .before .before .before .before .enum-told in
+    let number-at = c .before .before .before .before .before .before .before .number-at in
+    let number-at2 = c .before .before .before .before .before .before .number-at2 in
+    let if1 = c .before .before .before .before .before .if1 in
+    let if2 = c .before .before .before .before .if2 in
+    let if3 = c .before .before .before .if3 in
+    let twelve-zeros = c .before .twelve-zeros in
+    let if4 = c .before .before .if4 in
+    let if5 = c .if5 in
+    let line = sym (read-line .ensures) ∙ enum-told .given .1 in
+    let processors = number-at .ensures in
+    let slots = number-at2 .ensures in
+    record { refusal = sym (header-zeros _ _ _ _ line processors slots (if1 .left) (if2 .left) (if3 .left) (if4 .left) _ (twelve-zeros .ensures) ∙ (rw (if5 .left))); sizes = tt }
 
 pub check-header-spec : {M : Type 1} → statement M
 check-header-spec =

@@ -1,4 +1,5 @@
-use Prim.Native.Nat.{ℕ, _+_, _*_, _-_, _≤_}
+-- The invariants: the lines before line k pass, and the first fields of line k are right. Each way out of the loops has its own answer.
+use Prim.Native.Nat.{_+_, _*_, _-_, _≤_}
 use mathlib.Core.Path.{_≡_, refl, sym, _∙_, ap}
 use mathlib.Core.Bool.{true}
 use native.Mathlib.Omega.{arith}
@@ -72,7 +73,11 @@ loop-less : tie.Need-loop-less Inv-loop μ-loop Inv-lines μ-lines
 loop-less c = search needs
 
 loop-again : tie.Need-loop-again Inv-loop μ-loop Inv-lines μ-lines
-loop-again c = (c .before .before .before .before .loop .inv .0, omega arith, field-goes-on _ _ _ (c .before .before .before .before .loop .inv .2) (sym (c .before .before .read-field .ensures) ∙ c .enum-told .given .1))
+loop-again c =
+    let loop = c .before .before .before .before .loop in
+    let read-field = c .before .before .read-field in
+    let enum-told = c .enum-told in
+    (loop .inv .0, omega arith, field-goes-on _ _ _ (loop .inv .2) (sym (read-field .ensures) ∙ enum-told .given .1))
 
 add-ends-at : tie.Need-add-ends-at Inv-loop μ-loop Inv-lines μ-lines
 add-ends-at c = search needs
@@ -93,7 +98,13 @@ slot-of-requires : tie.Need-slot-of-requires Inv-loop μ-loop Inv-lines μ-lines
 slot-of-requires c κs = search needs
 
 line-laid-requires : tie.Need-line-laid-requires Inv-loop μ-loop Inv-lines μ-lines
-line-laid-requires c κs = line-whole _ _ _ (c .before .before .before .before .before .loop .inv .1) (c .before .before .before .before .loop-test .left) (c .before .before .before .before .before .loop .inv .2) _ (c .before .before .before .ends-at .ensures) (not-false _ (c .before .before .if1 .left))
+line-laid-requires c κs =
+    let loop = c .before .before .before .before .before .loop in
+    let loop-test = c .before .before .before .before .loop-test in
+    let ends-at = c .before .before .before .ends-at in
+    let if1 = c .before .before .if1 in
+    let right = line-whole _ _ _ (loop .inv .1) (loop-test .left) (loop .inv .2) _ (ends-at .ensures) (not-false _ (if1 .left)) in
+    right
 
 add-t23 : tie.Need-add-t23 Inv-loop μ-loop Inv-lines μ-lines
 add-t23 c = search needs
@@ -108,19 +119,63 @@ lines-less : tie.Need-lines-less Inv-loop μ-loop Inv-lines μ-lines
 lines-less c = search needs
 
 lines-again : tie.Need-lines-again Inv-loop μ-loop Inv-lines μ-lines
-lines-again c = (c .before .before .before .before .before .before .before .loop .inv .0 ∙ c .before .before .before .before .before .before .before .before .before .lines .inv .0, omega arith, λ n e. below-goes-on _ _ (c .before .before .before .before .before .before .before .before .before .lines .inv .2 n e) (slot-right (c .before .before .before .before .before .before .before .before .before .before .before .before .args .table .now) (c .before .before .before .before .before .before .before .before .before .lines .k) (85 * (c .before .before .before .before .before .before .before .before .before .lines .k + 1)) refl n (line-whole _ _ _ (c .before .before .before .before .before .before .before .loop .inv .1) (c .before .before .before .before .before .before .loop-test .left) (c .before .before .before .before .before .before .before .loop .inv .2) _ (c .before .before .before .before .before .ends-at .ensures) (not-false _ (c .before .before .before .before .if1 .left))) (c .before .line-laid .result) ((cc)) (not-false _ (c .if2 .left))))
+lines-again c =
+    let s = c .before .before .before .before .before .before .before .before .before .before .before .before in
+    let lines = c .before .before .before .before .before .before .before .before .before .lines in
+    let loop = c .before .before .before .before .before .before .before .loop in
+    let loop-test = c .before .before .before .before .before .before .loop-test in
+    let ends-at = c .before .before .before .before .before .ends-at in
+    let if1 = c .before .before .before .before .if1 in
+    let line-laid = c .before .line-laid in
+    let if2 = c .if2 in
+    let right = line-whole _ _ _ (loop .inv .1) (loop-test .left) (loop .inv .2) _ (ends-at .ensures) (not-false _ (if1 .left)) in
+    (loop .inv .0 ∙ lines .inv .0, omega arith, λ n e. below-goes-on _ _ (lines .inv .2 n e) (slot-right (s .args .table .now) (lines .k) (85 * (lines .k + 1)) refl n right (line-laid .result) (cc) (not-false _ (if2 .left))))
 
 returns : tie.Need-returns Inv-loop μ-loop Inv-lines μ-lines
-returns c = λ n e. record { refusal = ap modRefusal (c .before .lines .inv .0) ∙ sym (lines-pass _ _ _ (c .before .before .before .before .pre) _ _ _ (c .before .before .line-count .ensures .0) (c .before .lines .inv .2) n e (c .before .lines .inv .1) (c .lines-test .left)); sizes = rw (c .before .lines .inv .0) (refl, refl) }
+returns c =
+    let s = c .before .before .before .before in
+    let line-count = c .before .before .line-count in
+    let lines = c .before .lines in
+    let lines-test = c .lines-test in
+    λ n e. record { refusal = ap modRefusal (lines .inv .0) ∙ sym (lines-pass _ _ _ (s .pre) _ _ _ (line-count .ensures .0) (lines .inv .2) n e (lines .inv .1) (lines-test .left)); sizes = rw (lines .inv .0) (refl, refl) }
 
 returns-2 : tie.Need-returns-2 Inv-loop μ-loop Inv-lines μ-lines
-returns-2 c = λ n e. record { refusal = sym (lines-stop _ _ _ (c .before .before .before .before .before .before .before .before .before .pre) _ _ _ (c .before .before .before .before .before .before .before .line-count .ensures .0) (c .before .before .before .before .before .before .lines .inv .2) n e (c .before .before .before .before .before .lines-test .taken) (slot-misformed _ _ _ refl n (field-stops _ _ _ (c .before .before .before .loop-test .taken) (sym (c .before .before .read-field .ensures) ∙ c .enum-told2 .given .1)))); sizes = tt }
+returns-2 c =
+    let s = c .before .before .before .before .before .before .before .before .before in
+    let line-count = c .before .before .before .before .before .before .before .line-count in
+    let lines = c .before .before .before .before .before .before .lines in
+    let lines-test = c .before .before .before .before .before .lines-test in
+    let loop-test = c .before .before .before .loop-test in
+    let read-field = c .before .before .read-field in
+    let enum-told2 = c .enum-told2 in
+    λ n e. record { refusal = sym (lines-stop _ _ _ (s .pre) _ _ _ (line-count .ensures .0) (lines .inv .2) n e (lines-test .taken) (slot-misformed _ _ _ refl n (field-stops _ _ _ (loop-test .taken) (sym (read-field .ensures) ∙ enum-told2 .given .1)))); sizes = tt }
 
 returns-3 : tie.Need-returns-3 Inv-loop μ-loop Inv-lines μ-lines
-returns-3 c = λ n e. record { refusal = sym (lines-stop _ _ _ (c .before .before .before .before .before .before .before .before .pre) _ _ _ (c .before .before .before .before .before .before .line-count .ensures .0) (c .before .before .before .before .before .lines .inv .2) n e (c .before .before .before .before .lines-test .taken) (slot-misformed _ _ _ refl n (line-unended _ _ _ (c .before .before .before .loop .inv .1) (c .before .before .loop-test .left) (c .before .before .before .loop .inv .2) _ (c .before .ends-at .ensures) (not-true _ (c .if1 .taken))))); sizes = tt }
+returns-3 c =
+    let s = c .before .before .before .before .before .before .before .before in
+    let line-count = c .before .before .before .before .before .before .line-count in
+    let lines = c .before .before .before .before .before .lines in
+    let lines-test = c .before .before .before .before .lines-test in
+    let loop = c .before .before .before .loop in
+    let loop-test = c .before .before .loop-test in
+    let ends-at = c .before .ends-at in
+    let if1 = c .if1 in
+    λ n e. record { refusal = sym (lines-stop _ _ _ (s .pre) _ _ _ (line-count .ensures .0) (lines .inv .2) n e (lines-test .taken) (slot-misformed _ _ _ refl n (line-unended _ _ _ (loop .inv .1) (loop-test .left) (loop .inv .2) _ (ends-at .ensures) (not-true _ (if1 .taken))))); sizes = tt }
 
 returns-4 : tie.Need-returns-4 Inv-loop μ-loop Inv-lines μ-lines
-returns-4 c = λ n e. record { refusal = sym (lines-stop _ _ _ (c .before .before .before .before .before .before .before .before .before .before .before .before .pre) _ _ _ (c .before .before .before .before .before .before .before .before .before .before .line-count .ensures .0) (c .before .before .before .before .before .before .before .before .before .lines .inv .2) n e (c .before .before .before .before .before .before .before .before .lines-test .taken) (slot-wrong (c .before .before .before .before .before .before .before .before .before .before .before .before .args .table .now) (c .before .before .before .before .before .before .before .before .before .lines .k) (85 * (c .before .before .before .before .before .before .before .before .before .lines .k + 1)) refl n (line-whole _ _ _ (c .before .before .before .before .before .before .before .loop .inv .1) (c .before .before .before .before .before .before .loop-test .left) (c .before .before .before .before .before .before .before .loop .inv .2) _ (c .before .before .before .before .before .ends-at .ensures) (not-false _ (c .before .before .before .before .if1 .left))) (c .before .line-laid .result) ((cc)) (not-true _ (c .if2 .taken)))); sizes = tt }
+returns-4 c =
+    let s = c .before .before .before .before .before .before .before .before .before .before .before .before in
+    let line-count = c .before .before .before .before .before .before .before .before .before .before .line-count in
+    let lines = c .before .before .before .before .before .before .before .before .before .lines in
+    let lines-test = c .before .before .before .before .before .before .before .before .lines-test in
+    let loop = c .before .before .before .before .before .before .before .loop in
+    let loop-test = c .before .before .before .before .before .before .loop-test in
+    let ends-at = c .before .before .before .before .before .ends-at in
+    let if1 = c .before .before .before .before .if1 in
+    let line-laid = c .before .line-laid in
+    let if2 = c .if2 in
+    let right = line-whole _ _ _ (loop .inv .1) (loop-test .left) (loop .inv .2) _ (ends-at .ensures) (not-false _ (if1 .left)) in
+    λ n e. record { refusal = sym (lines-stop _ _ _ (s .pre) _ _ _ (line-count .ensures .0) (lines .inv .2) n e (lines-test .taken) (slot-wrong (s .args .table .now) (lines .k) (85 * (lines .k + 1)) refl n right (line-laid .result) (cc) (not-true _ (if2 .taken)))); sizes = tt }
 
 pub check-lines-spec : {M : Type 1} → statement M
 check-lines-spec =

@@ -1,9 +1,8 @@
-use Prim.Native.Nat.{ℕ, _≤_}
-use mathlib.Core.Path.{_≡_, refl, sym, ap, _∙_}
+-- Each stage that accepts leaves what the next one requires; the first that refuses answers for all.
+use mathlib.Core.Path.{refl}
 use native.Mathlib.Omega.{arith}
 use Rattle.model.specs.Netlist.{network}
 use Rattle.model.specs.Schedule.{modCheck}
-use Rattle.schedule.specs.Answer.{Answers, Sized, Laid}
 use Rattle.schedule.proofs.Told.{not-accepted}
 use Rattle.schedule.proofs.Sources.{net-field}
 use Rattle.schedule.proofs.Stages.{refused, passed, sizes-of, after, header-sized, resized, signals-few, lines-laid, lines-within, net-signals}
@@ -19,67 +18,261 @@ enum-known-header c = search needs
 
 returns : tie.Need-returns
 unfolding modCheck
-returns c = refused _ _ _ _ _ _ _ (c .before .check-header .ensures) (not-accepted _ (c .match .keys2))
+returns c =
+    let check-header = c .before .check-header in
+    let m = c .match in
+    refused _ _ _ _ _ _ _ (check-header .ensures) (not-accepted _ (m .keys2))
 
 number-at-requires : tie.Need-number-at-requires
-number-at-requires c κs = net-field (c .before .before .before .before .before .before .args .net .now) 0 0 refl (c .before .before .before .before .before .before .pre) (omega arith) 1 6 (omega arith) refl
+number-at-requires c κs =
+    let s = c .before .before .before .before .before .before in
+    net-field (s .args .net .now) 0 0 refl (s .pre) (omega arith) 1 6 (omega arith) refl
 
 check-lines-requires : tie.Need-check-lines-requires
-check-lines-requires c κs = header-sized _ _ _ (passed _ _ _ _ _ _ (c .before .before .before .before .check-header .ensures) (c .before .before .header .given .1)) ((sizes-of _ _ _ _ _ _ (c .before .before .before .before .check-header .ensures) (c .before .before .header .given .1)) .0) ((sizes-of _ _ _ _ _ _ (c .before .before .before .before .check-header .ensures) (c .before .before .header .given .1)) .1)
+check-lines-requires c κs =
+    let check-header = c .before .before .before .before .check-header in
+    let header = c .before .before .header in
+    let header-pass = passed _ _ _ _ _ _ (check-header .ensures) (header .given .1) in
+    let sizes = sizes-of _ _ _ _ _ _ (check-header .ensures) (header .given .1) in
+    let sized = header-sized _ _ _ header-pass (sizes .0) (sizes .1) in
+    sized
 
 enum-told : tie.Need-enum-told
 enum-told c = search needs
 
 returns-2 : tie.Need-returns-2
 unfolding modCheck
-returns-2 c = after _ _ _ _ _ (passed _ _ _ _ _ _ (c .before .before .before .before .before .before .check-header .ensures) (c .before .before .before .before .header .given .1)) (refused _ _ _ _ _ _ _ (c .before .check-lines .ensures (network (c .before .before .before .before .before .before .before .before .before .args .net .now)) (net-signals (c .before .before .before .before .before .before .before .before .before .args .net .now) _ (c .before .before .number-at .ensures))) (not-accepted _ (c .match2 .keys2)))
+returns-2 c =
+    let s = c .before .before .before .before .before .before .before .before .before in
+    let check-header = c .before .before .before .before .before .before .check-header in
+    let header = c .before .before .before .before .header in
+    let number-at = c .before .before .number-at in
+    let check-lines = c .before .check-lines in
+    let m2 = c .match2 in
+    let header-pass = passed _ _ _ _ _ _ (check-header .ensures) (header .given .1) in
+    let n = network (s .args .net .now) in
+    let of-size = net-signals (s .args .net .now) _ (number-at .ensures) in
+    let lines-answer = check-lines .ensures n of-size in
+    after _ _ _ _ _ header-pass (refused _ _ _ _ _ _ _ lines-answer (not-accepted _ (m2 .keys2)))
 
 check-surplus-requires : tie.Need-check-surplus-requires
-check-surplus-requires c κs = header-sized _ _ _ (passed _ _ _ _ _ _ (c .before .before .before .before .before .before .before .check-header .ensures) (c .before .before .before .before .before .header .given .1)) ((sizes-of _ _ _ _ _ _ (c .before .before .before .before .before .before .before .check-header .ensures) (c .before .before .before .before .before .header .given .1)) .0) ((sizes-of _ _ _ _ _ _ (c .before .before .before .before .before .before .before .check-header .ensures) (c .before .before .before .before .before .header .given .1)) .1)
+check-surplus-requires c κs =
+    let check-header = c .before .before .before .before .before .before .before .check-header in
+    let header = c .before .before .before .before .before .header in
+    let header-pass = passed _ _ _ _ _ _ (check-header .ensures) (header .given .1) in
+    let sizes = sizes-of _ _ _ _ _ _ (check-header .ensures) (header .given .1) in
+    let sized = header-sized _ _ _ header-pass (sizes .0) (sizes .1) in
+    sized
 
 enum-told-2 : tie.Need-enum-told-2
 enum-told-2 c = search needs
 
 returns-3 : tie.Need-returns-3
 unfolding modCheck
-returns-3 c = after _ _ _ _ _ (passed _ _ _ _ _ _ (c .before .before .before .before .before .before .before .before .before .check-header .ensures) (c .before .before .before .before .before .before .before .header .given .1)) (after _ _ _ _ _ (passed _ _ _ _ _ _ (c .before .before .before .before .check-lines .ensures (network (c .before .before .before .before .before .before .before .before .before .before .before .before .args .net .now)) (net-signals (c .before .before .before .before .before .before .before .before .before .before .before .before .args .net .now) _ (c .before .before .before .before .before .number-at .ensures))) (c .before .before .enum-told .given .1)) (refused _ _ _ _ _ _ _ (c .before .check-surplus .ensures) (not-accepted _ (c .match3 .keys2))))
+returns-3 c =
+    let s = c .before .before .before .before .before .before .before .before .before .before .before .before in
+    let check-header = c .before .before .before .before .before .before .before .before .before .check-header in
+    let header = c .before .before .before .before .before .before .before .header in
+    let number-at = c .before .before .before .before .before .number-at in
+    let check-lines = c .before .before .before .before .check-lines in
+    let enum-told = c .before .before .enum-told in
+    let check-surplus = c .before .check-surplus in
+    let m3 = c .match3 in
+    let header-pass = passed _ _ _ _ _ _ (check-header .ensures) (header .given .1) in
+    let n = network (s .args .net .now) in
+    let of-size = net-signals (s .args .net .now) _ (number-at .ensures) in
+    let lines-answer = check-lines .ensures n of-size in
+    let lines-pass = passed _ _ _ _ _ _ lines-answer (enum-told .given .1) in
+    after _ _ _ _ _ header-pass (after _ _ _ _ _ lines-pass (refused _ _ _ _ _ _ _ (check-surplus .ensures) (not-accepted _ (m3 .keys2))))
 
 check-placements-requires : tie.Need-check-placements-requires
-check-placements-requires c κs = ((lines-laid (c .before .before .before .before .before .before .before .before .before .before .before .before .before .args .net .now) (c .before .before .before .before .before .before .before .before .before .before .before .before .before .args .table .now) _ _ (c .before .before .before .before .before .before .before .before .before .before .before .before .before .pre) (header-sized _ _ _ (passed _ _ _ _ _ _ (c .before .before .before .before .before .before .before .before .before .before .check-header .ensures) (c .before .before .before .before .before .before .before .before .header .given .1)) ((sizes-of _ _ _ _ _ _ (c .before .before .before .before .before .before .before .before .before .before .check-header .ensures) (c .before .before .before .before .before .before .before .before .header .given .1)) .0) ((sizes-of _ _ _ _ _ _ (c .before .before .before .before .before .before .before .before .before .before .check-header .ensures) (c .before .before .before .before .before .before .before .before .header .given .1)) .1)) (passed _ _ _ _ _ _ (c .before .before .before .before .before .check-lines .ensures (network (c .before .before .before .before .before .before .before .before .before .before .before .before .before .args .net .now)) (net-signals (c .before .before .before .before .before .before .before .before .before .before .before .before .before .args .net .now) _ (c .before .before .before .before .before .before .number-at .ensures))) (c .before .before .before .enum-told .given .1))), omega (arith, c .before .before .before .before .before .before .number-at .ensures, (signals-few (c .before .before .before .before .before .before .before .before .before .before .before .before .before .args .net .now) (c .before .before .before .before .before .before .before .before .before .before .before .before .before .args .table .now) _ _ (c .before .before .before .before .before .before .before .before .before .before .before .before .before .pre) (header-sized _ _ _ (passed _ _ _ _ _ _ (c .before .before .before .before .before .before .before .before .before .before .check-header .ensures) (c .before .before .before .before .before .before .before .before .header .given .1)) ((sizes-of _ _ _ _ _ _ (c .before .before .before .before .before .before .before .before .before .before .check-header .ensures) (c .before .before .before .before .before .before .before .before .header .given .1)) .0) ((sizes-of _ _ _ _ _ _ (c .before .before .before .before .before .before .before .before .before .before .check-header .ensures) (c .before .before .before .before .before .before .before .before .header .given .1)) .1)) (passed _ _ _ _ _ _ (c .before .before .before .before .before .check-lines .ensures (network (c .before .before .before .before .before .before .before .before .before .before .before .before .before .args .net .now)) (net-signals (c .before .before .before .before .before .before .before .before .before .before .before .before .before .args .net .now) _ (c .before .before .before .before .before .before .number-at .ensures))) (c .before .before .before .enum-told .given .1)))))
+check-placements-requires c κs =
+    let s = c .before .before .before .before .before .before .before .before .before .before .before .before .before in
+    let check-header = c .before .before .before .before .before .before .before .before .before .before .check-header in
+    let header = c .before .before .before .before .before .before .before .before .header in
+    let number-at = c .before .before .before .before .before .before .number-at in
+    let check-lines = c .before .before .before .before .before .check-lines in
+    let enum-told = c .before .before .before .enum-told in
+    let header-pass = passed _ _ _ _ _ _ (check-header .ensures) (header .given .1) in
+    let sizes = sizes-of _ _ _ _ _ _ (check-header .ensures) (header .given .1) in
+    let sized = header-sized _ _ _ header-pass (sizes .0) (sizes .1) in
+    let n = network (s .args .net .now) in
+    let of-size = net-signals (s .args .net .now) _ (number-at .ensures) in
+    let lines-answer = check-lines .ensures n of-size in
+    let lines-pass = passed _ _ _ _ _ _ lines-answer (enum-told .given .1) in
+    let laid = lines-laid (s .args .net .now) (s .args .table .now) _ _ (s .pre) sized lines-pass in
+    let few = signals-few (s .args .net .now) (s .args .table .now) _ _ (s .pre) sized lines-pass in
+    (laid, omega (arith, number-at .ensures, few))
 
 enum-told-3 : tie.Need-enum-told-3
 enum-told-3 c = search needs
 
 returns-4 : tie.Need-returns-4
 unfolding modCheck
-returns-4 c = after _ _ _ _ _ (passed _ _ _ _ _ _ (c .before .before .before .before .before .before .before .before .before .before .before .before .check-header .ensures) (c .before .before .before .before .before .before .before .before .before .before .header .given .1)) (after _ _ _ _ _ (passed _ _ _ _ _ _ (c .before .before .before .before .before .before .before .check-lines .ensures (network (c .before .before .before .before .before .before .before .before .before .before .before .before .before .before .before .args .net .now)) (net-signals (c .before .before .before .before .before .before .before .before .before .before .before .before .before .before .before .args .net .now) _ (c .before .before .before .before .before .before .before .before .number-at .ensures))) (c .before .before .before .before .before .enum-told .given .1)) (after _ _ _ _ _ (passed _ _ _ _ _ _ (c .before .before .before .before .check-surplus .ensures) (c .before .before .enum-told2 .given .1)) (refused _ _ _ _ _ _ _ (c .before .check-placements .ensures (network (c .before .before .before .before .before .before .before .before .before .before .before .before .before .before .before .args .net .now)) (net-signals (c .before .before .before .before .before .before .before .before .before .before .before .before .before .before .before .args .net .now) _ (c .before .before .before .before .before .before .before .before .number-at .ensures))) (not-accepted _ (c .match4 .keys2)))))
+returns-4 c =
+    let s = c .before .before .before .before .before .before .before .before .before .before .before .before .before .before .before in
+    let check-header = c .before .before .before .before .before .before .before .before .before .before .before .before .check-header in
+    let header = c .before .before .before .before .before .before .before .before .before .before .header in
+    let number-at = c .before .before .before .before .before .before .before .before .number-at in
+    let check-lines = c .before .before .before .before .before .before .before .check-lines in
+    let enum-told = c .before .before .before .before .before .enum-told in
+    let check-surplus = c .before .before .before .before .check-surplus in
+    let enum-told2 = c .before .before .enum-told2 in
+    let check-placements = c .before .check-placements in
+    let m4 = c .match4 in
+    let header-pass = passed _ _ _ _ _ _ (check-header .ensures) (header .given .1) in
+    let n = network (s .args .net .now) in
+    let of-size = net-signals (s .args .net .now) _ (number-at .ensures) in
+    let lines-answer = check-lines .ensures n of-size in
+    let lines-pass = passed _ _ _ _ _ _ lines-answer (enum-told .given .1) in
+    let surplus-pass = passed _ _ _ _ _ _ (check-surplus .ensures) (enum-told2 .given .1) in
+    let placed-answer = check-placements .ensures n of-size in
+    after _ _ _ _ _ header-pass (after _ _ _ _ _ lines-pass (after _ _ _ _ _ surplus-pass (refused _ _ _ _ _ _ _ placed-answer (not-accepted _ (m4 .keys2)))))
 
 check-sends-requires : tie.Need-check-sends-requires
-check-sends-requires c κs = lines-laid (c .before .before .before .before .before .before .before .before .before .before .before .before .before .before .before .before .args .net .now) (c .before .before .before .before .before .before .before .before .before .before .before .before .before .before .before .before .args .table .now) _ _ (c .before .before .before .before .before .before .before .before .before .before .before .before .before .before .before .before .pre) (header-sized _ _ _ (passed _ _ _ _ _ _ (c .before .before .before .before .before .before .before .before .before .before .before .before .before .check-header .ensures) (c .before .before .before .before .before .before .before .before .before .before .before .header .given .1)) ((sizes-of _ _ _ _ _ _ (c .before .before .before .before .before .before .before .before .before .before .before .before .before .check-header .ensures) (c .before .before .before .before .before .before .before .before .before .before .before .header .given .1)) .0) ((sizes-of _ _ _ _ _ _ (c .before .before .before .before .before .before .before .before .before .before .before .before .before .check-header .ensures) (c .before .before .before .before .before .before .before .before .before .before .before .header .given .1)) .1)) (passed _ _ _ _ _ _ (c .before .before .before .before .before .before .before .before .check-lines .ensures (network (c .before .before .before .before .before .before .before .before .before .before .before .before .before .before .before .before .args .net .now)) (net-signals (c .before .before .before .before .before .before .before .before .before .before .before .before .before .before .before .before .args .net .now) _ (c .before .before .before .before .before .before .before .before .before .number-at .ensures))) (c .before .before .before .before .before .before .enum-told .given .1))
+check-sends-requires c κs =
+    let s = c .before .before .before .before .before .before .before .before .before .before .before .before .before .before .before .before in
+    let check-header = c .before .before .before .before .before .before .before .before .before .before .before .before .before .check-header in
+    let header = c .before .before .before .before .before .before .before .before .before .before .before .header in
+    let number-at = c .before .before .before .before .before .before .before .before .before .number-at in
+    let check-lines = c .before .before .before .before .before .before .before .before .check-lines in
+    let enum-told = c .before .before .before .before .before .before .enum-told in
+    let header-pass = passed _ _ _ _ _ _ (check-header .ensures) (header .given .1) in
+    let sizes = sizes-of _ _ _ _ _ _ (check-header .ensures) (header .given .1) in
+    let sized = header-sized _ _ _ header-pass (sizes .0) (sizes .1) in
+    let n = network (s .args .net .now) in
+    let of-size = net-signals (s .args .net .now) _ (number-at .ensures) in
+    let lines-answer = check-lines .ensures n of-size in
+    let lines-pass = passed _ _ _ _ _ _ lines-answer (enum-told .given .1) in
+    let laid = lines-laid (s .args .net .now) (s .args .table .now) _ _ (s .pre) sized lines-pass in
+    laid
 
 enum-told-4 : tie.Need-enum-told-4
 enum-told-4 c = search needs
 
 returns-5 : tie.Need-returns-5
 unfolding modCheck
-returns-5 c = after _ _ _ _ _ (passed _ _ _ _ _ _ (c .before .before .before .before .before .before .before .before .before .before .before .before .before .before .before .check-header .ensures) (c .before .before .before .before .before .before .before .before .before .before .before .before .before .header .given .1)) (after _ _ _ _ _ (passed _ _ _ _ _ _ (c .before .before .before .before .before .before .before .before .before .before .check-lines .ensures (network (c .before .before .before .before .before .before .before .before .before .before .before .before .before .before .before .before .before .before .args .net .now)) (net-signals (c .before .before .before .before .before .before .before .before .before .before .before .before .before .before .before .before .before .before .args .net .now) _ (c .before .before .before .before .before .before .before .before .before .before .before .number-at .ensures))) (c .before .before .before .before .before .before .before .before .enum-told .given .1)) (after _ _ _ _ _ (passed _ _ _ _ _ _ (c .before .before .before .before .before .before .before .check-surplus .ensures) (c .before .before .before .before .before .enum-told2 .given .1)) (after _ _ _ _ _ (passed _ _ _ _ _ _ (c .before .before .before .before .check-placements .ensures (network (c .before .before .before .before .before .before .before .before .before .before .before .before .before .before .before .before .before .before .args .net .now)) (net-signals (c .before .before .before .before .before .before .before .before .before .before .before .before .before .before .before .before .before .before .args .net .now) _ (c .before .before .before .before .before .before .before .before .before .before .before .number-at .ensures))) (c .before .before .enum-told3 .given .1)) (refused _ _ _ _ _ _ _ (c .before .check-sends .ensures) (not-accepted _ (c .match5 .keys2))))))
+returns-5 c =
+    let s = c .before .before .before .before .before .before .before .before .before .before .before .before .before .before .before .before .before .before in
+    let check-header = c .before .before .before .before .before .before .before .before .before .before .before .before .before .before .before .check-header in
+    let header = c .before .before .before .before .before .before .before .before .before .before .before .before .before .header in
+    let number-at = c .before .before .before .before .before .before .before .before .before .before .before .number-at in
+    let check-lines = c .before .before .before .before .before .before .before .before .before .before .check-lines in
+    let enum-told = c .before .before .before .before .before .before .before .before .enum-told in
+    let check-surplus = c .before .before .before .before .before .before .before .check-surplus in
+    let enum-told2 = c .before .before .before .before .before .enum-told2 in
+    let check-placements = c .before .before .before .before .check-placements in
+    let enum-told3 = c .before .before .enum-told3 in
+    let check-sends = c .before .check-sends in
+    let m5 = c .match5 in
+    let header-pass = passed _ _ _ _ _ _ (check-header .ensures) (header .given .1) in
+    let n = network (s .args .net .now) in
+    let of-size = net-signals (s .args .net .now) _ (number-at .ensures) in
+    let lines-answer = check-lines .ensures n of-size in
+    let lines-pass = passed _ _ _ _ _ _ lines-answer (enum-told .given .1) in
+    let surplus-pass = passed _ _ _ _ _ _ (check-surplus .ensures) (enum-told2 .given .1) in
+    let placed-answer = check-placements .ensures n of-size in
+    let placed-pass = passed _ _ _ _ _ _ placed-answer (enum-told3 .given .1) in
+    after _ _ _ _ _ header-pass (after _ _ _ _ _ lines-pass (after _ _ _ _ _ surplus-pass (after _ _ _ _ _ placed-pass (refused _ _ _ _ _ _ _ (check-sends .ensures) (not-accepted _ (m5 .keys2))))))
 
 check-receptions-requires : tie.Need-check-receptions-requires
-check-receptions-requires c κs = lines-laid (c .before .before .before .before .before .before .before .before .before .before .before .before .before .before .before .before .before .before .before .args .net .now) (c .before .before .before .before .before .before .before .before .before .before .before .before .before .before .before .before .before .before .before .args .table .now) _ _ (c .before .before .before .before .before .before .before .before .before .before .before .before .before .before .before .before .before .before .before .pre) (header-sized _ _ _ (passed _ _ _ _ _ _ (c .before .before .before .before .before .before .before .before .before .before .before .before .before .before .before .before .check-header .ensures) (c .before .before .before .before .before .before .before .before .before .before .before .before .before .before .header .given .1)) ((sizes-of _ _ _ _ _ _ (c .before .before .before .before .before .before .before .before .before .before .before .before .before .before .before .before .check-header .ensures) (c .before .before .before .before .before .before .before .before .before .before .before .before .before .before .header .given .1)) .0) ((sizes-of _ _ _ _ _ _ (c .before .before .before .before .before .before .before .before .before .before .before .before .before .before .before .before .check-header .ensures) (c .before .before .before .before .before .before .before .before .before .before .before .before .before .before .header .given .1)) .1)) (passed _ _ _ _ _ _ (c .before .before .before .before .before .before .before .before .before .before .before .check-lines .ensures (network (c .before .before .before .before .before .before .before .before .before .before .before .before .before .before .before .before .before .before .before .args .net .now)) (net-signals (c .before .before .before .before .before .before .before .before .before .before .before .before .before .before .before .before .before .before .before .args .net .now) _ (c .before .before .before .before .before .before .before .before .before .before .before .before .number-at .ensures))) (c .before .before .before .before .before .before .before .before .before .enum-told .given .1))
+check-receptions-requires c κs =
+    let s = c .before .before .before .before .before .before .before .before .before .before .before .before .before .before .before .before .before .before .before in
+    let check-header = c .before .before .before .before .before .before .before .before .before .before .before .before .before .before .before .before .check-header in
+    let header = c .before .before .before .before .before .before .before .before .before .before .before .before .before .before .header in
+    let number-at = c .before .before .before .before .before .before .before .before .before .before .before .before .number-at in
+    let check-lines = c .before .before .before .before .before .before .before .before .before .before .before .check-lines in
+    let enum-told = c .before .before .before .before .before .before .before .before .before .enum-told in
+    let header-pass = passed _ _ _ _ _ _ (check-header .ensures) (header .given .1) in
+    let sizes = sizes-of _ _ _ _ _ _ (check-header .ensures) (header .given .1) in
+    let sized = header-sized _ _ _ header-pass (sizes .0) (sizes .1) in
+    let n = network (s .args .net .now) in
+    let of-size = net-signals (s .args .net .now) _ (number-at .ensures) in
+    let lines-answer = check-lines .ensures n of-size in
+    let lines-pass = passed _ _ _ _ _ _ lines-answer (enum-told .given .1) in
+    let laid = lines-laid (s .args .net .now) (s .args .table .now) _ _ (s .pre) sized lines-pass in
+    laid
 
 enum-told-5 : tie.Need-enum-told-5
 enum-told-5 c = search needs
 
 returns-6 : tie.Need-returns-6
 unfolding modCheck
-returns-6 c = after _ _ _ _ _ (passed _ _ _ _ _ _ (c .before .before .before .before .before .before .before .before .before .before .before .before .before .before .before .before .before .before .check-header .ensures) (c .before .before .before .before .before .before .before .before .before .before .before .before .before .before .before .before .header .given .1)) (after _ _ _ _ _ (passed _ _ _ _ _ _ (c .before .before .before .before .before .before .before .before .before .before .before .before .before .check-lines .ensures (network (c .before .before .before .before .before .before .before .before .before .before .before .before .before .before .before .before .before .before .before .before .before .args .net .now)) (net-signals (c .before .before .before .before .before .before .before .before .before .before .before .before .before .before .before .before .before .before .before .before .before .args .net .now) _ (c .before .before .before .before .before .before .before .before .before .before .before .before .before .before .number-at .ensures))) (c .before .before .before .before .before .before .before .before .before .before .before .enum-told .given .1)) (after _ _ _ _ _ (passed _ _ _ _ _ _ (c .before .before .before .before .before .before .before .before .before .before .check-surplus .ensures) (c .before .before .before .before .before .before .before .before .enum-told2 .given .1)) (after _ _ _ _ _ (passed _ _ _ _ _ _ (c .before .before .before .before .before .before .before .check-placements .ensures (network (c .before .before .before .before .before .before .before .before .before .before .before .before .before .before .before .before .before .before .before .before .before .args .net .now)) (net-signals (c .before .before .before .before .before .before .before .before .before .before .before .before .before .before .before .before .before .before .before .before .before .args .net .now) _ (c .before .before .before .before .before .before .before .before .before .before .before .before .before .before .number-at .ensures))) (c .before .before .before .before .before .enum-told3 .given .1)) (after _ _ _ _ _ (passed _ _ _ _ _ _ (c .before .before .before .before .check-sends .ensures) (c .before .before .enum-told4 .given .1)) (refused _ _ _ _ _ _ _ (c .before .check-receptions .ensures) (not-accepted _ (c .match6 .keys2)))))))
+returns-6 c =
+    let s = c .before .before .before .before .before .before .before .before .before .before .before .before .before .before .before .before .before .before .before .before .before in
+    let check-header = c .before .before .before .before .before .before .before .before .before .before .before .before .before .before .before .before .before .before .check-header in
+    let header = c .before .before .before .before .before .before .before .before .before .before .before .before .before .before .before .before .header in
+    let number-at = c .before .before .before .before .before .before .before .before .before .before .before .before .before .before .number-at in
+    let check-lines = c .before .before .before .before .before .before .before .before .before .before .before .before .before .check-lines in
+    let enum-told = c .before .before .before .before .before .before .before .before .before .before .before .enum-told in
+    let check-surplus = c .before .before .before .before .before .before .before .before .before .before .check-surplus in
+    let enum-told2 = c .before .before .before .before .before .before .before .before .enum-told2 in
+    let check-placements = c .before .before .before .before .before .before .before .check-placements in
+    let enum-told3 = c .before .before .before .before .before .enum-told3 in
+    let check-sends = c .before .before .before .before .check-sends in
+    let enum-told4 = c .before .before .enum-told4 in
+    let check-receptions = c .before .check-receptions in
+    let m6 = c .match6 in
+    let header-pass = passed _ _ _ _ _ _ (check-header .ensures) (header .given .1) in
+    let n = network (s .args .net .now) in
+    let of-size = net-signals (s .args .net .now) _ (number-at .ensures) in
+    let lines-answer = check-lines .ensures n of-size in
+    let lines-pass = passed _ _ _ _ _ _ lines-answer (enum-told .given .1) in
+    let surplus-pass = passed _ _ _ _ _ _ (check-surplus .ensures) (enum-told2 .given .1) in
+    let placed-answer = check-placements .ensures n of-size in
+    let placed-pass = passed _ _ _ _ _ _ placed-answer (enum-told3 .given .1) in
+    let sends-pass = passed _ _ _ _ _ _ (check-sends .ensures) (enum-told4 .given .1) in
+    after _ _ _ _ _ header-pass (after _ _ _ _ _ lines-pass (after _ _ _ _ _ surplus-pass (after _ _ _ _ _ placed-pass (after _ _ _ _ _ sends-pass (refused _ _ _ _ _ _ _ (check-receptions .ensures) (not-accepted _ (m6 .keys2)))))))
 
 check-operands-requires : tie.Need-check-operands-requires
-check-operands-requires c κs = ((lines-laid (c .before .before .before .before .before .before .before .before .before .before .before .before .before .before .before .before .before .before .before .before .before .before .args .net .now) (c .before .before .before .before .before .before .before .before .before .before .before .before .before .before .before .before .before .before .before .before .before .before .args .table .now) _ _ (c .before .before .before .before .before .before .before .before .before .before .before .before .before .before .before .before .before .before .before .before .before .before .pre) (header-sized _ _ _ (passed _ _ _ _ _ _ (c .before .before .before .before .before .before .before .before .before .before .before .before .before .before .before .before .before .before .before .check-header .ensures) (c .before .before .before .before .before .before .before .before .before .before .before .before .before .before .before .before .before .header .given .1)) ((sizes-of _ _ _ _ _ _ (c .before .before .before .before .before .before .before .before .before .before .before .before .before .before .before .before .before .before .before .check-header .ensures) (c .before .before .before .before .before .before .before .before .before .before .before .before .before .before .before .before .before .header .given .1)) .0) ((sizes-of _ _ _ _ _ _ (c .before .before .before .before .before .before .before .before .before .before .before .before .before .before .before .before .before .before .before .check-header .ensures) (c .before .before .before .before .before .before .before .before .before .before .before .before .before .before .before .before .before .header .given .1)) .1)) (passed _ _ _ _ _ _ (c .before .before .before .before .before .before .before .before .before .before .before .before .before .before .check-lines .ensures (network (c .before .before .before .before .before .before .before .before .before .before .before .before .before .before .before .before .before .before .before .before .before .before .args .net .now)) (net-signals (c .before .before .before .before .before .before .before .before .before .before .before .before .before .before .before .before .before .before .before .before .before .before .args .net .now) _ (c .before .before .before .before .before .before .before .before .before .before .before .before .before .before .before .number-at .ensures))) (c .before .before .before .before .before .before .before .before .before .before .before .before .enum-told .given .1))), (c .before .before .before .before .before .before .before .before .before .before .before .before .before .before .before .before .before .before .before .before .before .before .pre, (lines-within (c .before .before .before .before .before .before .before .before .before .before .before .before .before .before .before .before .before .before .before .before .before .before .args .net .now) (c .before .before .before .before .before .before .before .before .before .before .before .before .before .before .before .before .before .before .before .before .before .before .args .table .now) _ _ (c .before .before .before .before .before .before .before .before .before .before .before .before .before .before .before .before .before .before .before .before .before .before .pre) (header-sized _ _ _ (passed _ _ _ _ _ _ (c .before .before .before .before .before .before .before .before .before .before .before .before .before .before .before .before .before .before .before .check-header .ensures) (c .before .before .before .before .before .before .before .before .before .before .before .before .before .before .before .before .before .header .given .1)) ((sizes-of _ _ _ _ _ _ (c .before .before .before .before .before .before .before .before .before .before .before .before .before .before .before .before .before .before .before .check-header .ensures) (c .before .before .before .before .before .before .before .before .before .before .before .before .before .before .before .before .before .header .given .1)) .0) ((sizes-of _ _ _ _ _ _ (c .before .before .before .before .before .before .before .before .before .before .before .before .before .before .before .before .before .before .before .check-header .ensures) (c .before .before .before .before .before .before .before .before .before .before .before .before .before .before .before .before .before .header .given .1)) .1)) (passed _ _ _ _ _ _ (c .before .before .before .before .before .before .before .before .before .before .before .before .before .before .check-lines .ensures (network (c .before .before .before .before .before .before .before .before .before .before .before .before .before .before .before .before .before .before .before .before .before .before .args .net .now)) (net-signals (c .before .before .before .before .before .before .before .before .before .before .before .before .before .before .before .before .before .before .before .before .before .before .args .net .now) _ (c .before .before .before .before .before .before .before .before .before .before .before .before .before .before .before .number-at .ensures))) (c .before .before .before .before .before .before .before .before .before .before .before .before .enum-told .given .1)))))
+check-operands-requires c κs =
+    let s = c .before .before .before .before .before .before .before .before .before .before .before .before .before .before .before .before .before .before .before .before .before .before in
+    let check-header = c .before .before .before .before .before .before .before .before .before .before .before .before .before .before .before .before .before .before .before .check-header in
+    let header = c .before .before .before .before .before .before .before .before .before .before .before .before .before .before .before .before .before .header in
+    let number-at = c .before .before .before .before .before .before .before .before .before .before .before .before .before .before .before .number-at in
+    let check-lines = c .before .before .before .before .before .before .before .before .before .before .before .before .before .before .check-lines in
+    let enum-told = c .before .before .before .before .before .before .before .before .before .before .before .before .enum-told in
+    let header-pass = passed _ _ _ _ _ _ (check-header .ensures) (header .given .1) in
+    let sizes = sizes-of _ _ _ _ _ _ (check-header .ensures) (header .given .1) in
+    let sized = header-sized _ _ _ header-pass (sizes .0) (sizes .1) in
+    let n = network (s .args .net .now) in
+    let of-size = net-signals (s .args .net .now) _ (number-at .ensures) in
+    let lines-answer = check-lines .ensures n of-size in
+    let lines-pass = passed _ _ _ _ _ _ lines-answer (enum-told .given .1) in
+    let laid = lines-laid (s .args .net .now) (s .args .table .now) _ _ (s .pre) sized lines-pass in
+    let within = lines-within (s .args .net .now) (s .args .table .now) _ _ (s .pre) sized lines-pass in
+    (laid, (s .pre, within))
 
 returns-7 : tie.Need-returns-7
 unfolding modCheck
-returns-7 c = after _ _ _ _ _ (passed _ _ _ _ _ _ (c .before .before .before .before .before .before .before .before .before .before .before .before .before .before .before .before .before .before .before .before .check-header .ensures) (c .before .before .before .before .before .before .before .before .before .before .before .before .before .before .before .before .before .before .header .given .1)) (after _ _ _ _ _ (passed _ _ _ _ _ _ (c .before .before .before .before .before .before .before .before .before .before .before .before .before .before .before .check-lines .ensures (network (c .before .before .before .before .before .before .before .before .before .before .before .before .before .before .before .before .before .before .before .before .before .before .before .args .net .now)) (net-signals (c .before .before .before .before .before .before .before .before .before .before .before .before .before .before .before .before .before .before .before .before .before .before .before .args .net .now) _ (c .before .before .before .before .before .before .before .before .before .before .before .before .before .before .before .before .number-at .ensures))) (c .before .before .before .before .before .before .before .before .before .before .before .before .before .enum-told .given .1)) (after _ _ _ _ _ (passed _ _ _ _ _ _ (c .before .before .before .before .before .before .before .before .before .before .before .before .check-surplus .ensures) (c .before .before .before .before .before .before .before .before .before .before .enum-told2 .given .1)) (after _ _ _ _ _ (passed _ _ _ _ _ _ (c .before .before .before .before .before .before .before .before .before .check-placements .ensures (network (c .before .before .before .before .before .before .before .before .before .before .before .before .before .before .before .before .before .before .before .before .before .before .before .args .net .now)) (net-signals (c .before .before .before .before .before .before .before .before .before .before .before .before .before .before .before .before .before .before .before .before .before .before .before .args .net .now) _ (c .before .before .before .before .before .before .before .before .before .before .before .before .before .before .before .before .number-at .ensures))) (c .before .before .before .before .before .before .before .enum-told3 .given .1)) (after _ _ _ _ _ (passed _ _ _ _ _ _ (c .before .before .before .before .before .before .check-sends .ensures) (c .before .before .before .before .enum-told4 .given .1)) (after _ _ _ _ _ (passed _ _ _ _ _ _ (c .before .before .before .check-receptions .ensures) (c .before .enum-told5 .given .1)) (resized _ _ _ _ _ _ ((sizes-of _ _ _ _ _ _ (c .before .before .before .before .before .before .before .before .before .before .before .before .before .before .before .before .before .before .before .before .check-header .ensures) (c .before .before .before .before .before .before .before .before .before .before .before .before .before .before .before .before .before .before .header .given .1)) .0) ((sizes-of _ _ _ _ _ _ (c .before .before .before .before .before .before .before .before .before .before .before .before .before .before .before .before .before .before .before .before .check-header .ensures) (c .before .before .before .before .before .before .before .before .before .before .before .before .before .before .before .before .before .before .header .given .1)) .1) (c .check-operands .ensures)))))))
+returns-7 c =
+    let s = c .before .before .before .before .before .before .before .before .before .before .before .before .before .before .before .before .before .before .before .before .before .before .before in
+    let check-header = c .before .before .before .before .before .before .before .before .before .before .before .before .before .before .before .before .before .before .before .before .check-header in
+    let header = c .before .before .before .before .before .before .before .before .before .before .before .before .before .before .before .before .before .before .header in
+    let number-at = c .before .before .before .before .before .before .before .before .before .before .before .before .before .before .before .before .number-at in
+    let check-lines = c .before .before .before .before .before .before .before .before .before .before .before .before .before .before .before .check-lines in
+    let enum-told = c .before .before .before .before .before .before .before .before .before .before .before .before .before .enum-told in
+    let check-surplus = c .before .before .before .before .before .before .before .before .before .before .before .before .check-surplus in
+    let enum-told2 = c .before .before .before .before .before .before .before .before .before .before .enum-told2 in
+    let check-placements = c .before .before .before .before .before .before .before .before .before .check-placements in
+    let enum-told3 = c .before .before .before .before .before .before .before .enum-told3 in
+    let check-sends = c .before .before .before .before .before .before .check-sends in
+    let enum-told4 = c .before .before .before .before .enum-told4 in
+    let check-receptions = c .before .before .before .check-receptions in
+    let enum-told5 = c .before .enum-told5 in
+    let check-operands = c .check-operands in
+    let header-pass = passed _ _ _ _ _ _ (check-header .ensures) (header .given .1) in
+    let n = network (s .args .net .now) in
+    let of-size = net-signals (s .args .net .now) _ (number-at .ensures) in
+    let lines-answer = check-lines .ensures n of-size in
+    let lines-pass = passed _ _ _ _ _ _ lines-answer (enum-told .given .1) in
+    let surplus-pass = passed _ _ _ _ _ _ (check-surplus .ensures) (enum-told2 .given .1) in
+    let placed-answer = check-placements .ensures n of-size in
+    let placed-pass = passed _ _ _ _ _ _ placed-answer (enum-told3 .given .1) in
+    let sends-pass = passed _ _ _ _ _ _ (check-sends .ensures) (enum-told4 .given .1) in
+    let receptions-pass = passed _ _ _ _ _ _ (check-receptions .ensures) (enum-told5 .given .1) in
+    let sizes = sizes-of _ _ _ _ _ _ (check-header .ensures) (header .given .1) in
+    after _ _ _ _ _ header-pass (after _ _ _ _ _ lines-pass (after _ _ _ _ _ surplus-pass (after _ _ _ _ _ placed-pass (after _ _ _ _ _ sends-pass (after _ _ _ _ _ receptions-pass (resized _ _ _ _ _ _ (sizes .0) (sizes .1) (check-operands .ensures)))))))
 
 pub check-mod-spec : {M : Type 1} → statement M
 check-mod-spec =

@@ -1,5 +1,6 @@
-use Prim.Native.Nat.{ℕ, _+_, _*_, _-_, _/_, _%_, _≤_}
-use mathlib.Core.Path.{_≡_, refl, sym, ap, _∙_}
+-- The invariant: the operands of the lines before line k are right.
+use Prim.Native.Nat.{_-_, _≤_, _<_, _*_}
+use mathlib.Core.Path.{_≡_, refl, sym, _∙_}
 use native.Mathlib.Omega.{arith}
 use borrow.Author.Tests.{not-true, not-false}
 use Rattle.logic.specs.Test.{all}
@@ -34,7 +35,16 @@ slot-of-requires : tie.Need-slot-of-requires Inv-loop μ-loop
 slot-of-requires c κs = search needs
 
 operands-right-requires : tie.Need-operands-right-requires Inv-loop μ-loop
-operands-right-requires c κs = (c .before .before .before .before .before .before .before .pre .0, (c .before .before .before .before .before .before .before .pre .1 .0, (c .before .before .before .before .before .before .before .pre .1 .1, (omega (arith, c .before .processor-of .ensures, at-processor (c .before .before .before .before .before .before .before .args .table .now) (c .before .before .before .before .before .before .before .args .processors) (c .before .before .before .before .before .before .before .args .slots) (c .before .before .before .before .before .before .before .pre .0) (c .before .before .before .loop .k) (omega (arith, c .before .before .before .before .line-count .ensures .0))), omega (arith, c .slot-of .ensures, at-slot (c .before .before .before .before .before .before .before .args .table .now) (c .before .before .before .before .before .before .before .args .processors) (c .before .before .before .before .before .before .before .args .slots) (c .before .before .before .before .before .before .before .pre .0) (c .before .before .before .loop .k) (omega (arith, c .before .before .before .before .line-count .ensures .0)))))))
+operands-right-requires c κs =
+    let s = c .before .before .before .before .before .before .before in
+    let line-count = c .before .before .before .before .line-count in
+    let loop = c .before .before .before .loop in
+    let processor-of = c .before .processor-of in
+    let slot-of = c .slot-of in
+    let low : loop .k < s .args .processors * s .args .slots = omega (arith, line-count .ensures .0) in
+    let low-p : processor-of .result < s .args .processors = omega (arith, processor-of .ensures, at-processor (s .args .table .now) (s .args .processors) (s .args .slots) (s .pre .0) (loop .k) low) in
+    let low-i : slot-of .result < s .args .slots = omega (arith, slot-of .ensures, at-slot (s .args .table .now) (s .args .processors) (s .args .slots) (s .pre .0) (loop .k) low) in
+    (s .pre .0, (s .pre .1 .0, (s .pre .1 .1, (low-p, low-i))))
 
 add-t11 : tie.Need-add-t11 Inv-loop μ-loop
 add-t11 c = search needs
@@ -43,7 +53,16 @@ cast-t12 : tie.Need-cast-t12 Inv-loop μ-loop
 cast-t12 c = search needs
 
 returns : tie.Need-returns Inv-loop μ-loop
-returns c = record { refusal = sym (operands-tests _ _ ∙ test-stops (c .before .before .before .before .before .before .before .before .before .args .table .now) (c .before .before .before .before .before .before .before .before .before .args .processors) (c .before .before .before .before .before .before .before .before .before .args .slots) (c .before .before .before .before .before .before .before .before .before .pre .0 .sized) (λ p i. all 4 (operandRight (network (c .before .before .before .before .before .before .before .before .before .args .net .now)) (moduleOf (c .before .before .before .before .before .before .before .before .before .args .table .now)) p i)) 23 (c .before .before .before .before .before .before .line-count .result) (c .before .before .before .before .before .loop .k) (c .before .before .before .before .before .before .line-count .ensures .0) (c .before .before .before .before .before .loop .inv .1) (c .before .before .before .before .loop-test .taken) (c .before .operands-right .result) (c .before .operands-right .ensures ∙ (rw (c .before .before .before .processor-of .ensures, c .before .before .slot-of .ensures))) (not-true _ (c .if1 .taken))); sizes = tt }
+returns c =
+    let s = c .before .before .before .before .before .before .before .before .before in
+    let line-count = c .before .before .before .before .before .before .line-count in
+    let loop = c .before .before .before .before .before .loop in
+    let loop-test = c .before .before .before .before .loop-test in
+    let processor-of = c .before .before .before .processor-of in
+    let slot-of = c .before .before .slot-of in
+    let operands-right = c .before .operands-right in
+    let if1 = c .if1 in
+    record { refusal = sym (operands-tests _ _ ∙ test-stops (s .args .table .now) (s .args .processors) (s .args .slots) (s .pre .0 .sized) (λ p i. all 4 (operandRight (network (s .args .net .now)) (moduleOf (s .args .table .now)) p i)) 23 (line-count .result) (loop .k) (line-count .ensures .0) (loop .inv .1) (loop-test .taken) (operands-right .result) (operands-right .ensures ∙ (rw (processor-of .ensures, slot-of .ensures))) (not-true _ (if1 .taken))); sizes = tt }
 
 add-k : tie.Need-add-k Inv-loop μ-loop
 add-k c = search needs
@@ -52,10 +71,23 @@ loop-less : tie.Need-loop-less Inv-loop μ-loop
 loop-less c = search needs
 
 loop-again : tie.Need-loop-again Inv-loop μ-loop
-loop-again c = (omega arith, test-goes-on (c .before .before .before .before .before .before .before .before .before .args .table .now) (c .before .before .before .before .before .before .before .before .before .args .processors) (c .before .before .before .before .before .before .before .before .before .args .slots) (c .before .before .before .before .before .before .before .before .before .pre .0 .sized) (λ p i. all 4 (operandRight (network (c .before .before .before .before .before .before .before .before .before .args .net .now)) (moduleOf (c .before .before .before .before .before .before .before .before .before .args .table .now)) p i)) 23 (c .before .before .before .before .before .before .line-count .result) (c .before .before .before .before .before .loop .k) (c .before .before .before .before .before .before .line-count .ensures .0) (c .before .before .before .before .before .loop .inv .1) (c .before .operands-right .result) (c .before .operands-right .ensures ∙ (rw (c .before .before .before .processor-of .ensures, c .before .before .slot-of .ensures))) (not-false _ (c .if1 .left)))
+loop-again c =
+    let s = c .before .before .before .before .before .before .before .before .before in
+    let line-count = c .before .before .before .before .before .before .line-count in
+    let loop = c .before .before .before .before .before .loop in
+    let processor-of = c .before .before .before .processor-of in
+    let slot-of = c .before .before .slot-of in
+    let operands-right = c .before .operands-right in
+    let if1 = c .if1 in
+    (omega arith, test-goes-on (s .args .table .now) (s .args .processors) (s .args .slots) (s .pre .0 .sized) (λ p i. all 4 (operandRight (network (s .args .net .now)) (moduleOf (s .args .table .now)) p i)) 23 (line-count .result) (loop .k) (line-count .ensures .0) (loop .inv .1) (operands-right .result) (operands-right .ensures ∙ (rw (processor-of .ensures, slot-of .ensures))) (not-false _ (if1 .left)))
 
 returns-2 : tie.Need-returns-2 Inv-loop μ-loop
-returns-2 c = record { refusal = sym (operands-tests _ _ ∙ tests-pass (c .before .before .before .before .before .args .table .now) (c .before .before .before .before .before .args .processors) (c .before .before .before .before .before .args .slots) (c .before .before .before .before .before .pre .0 .sized) (λ p i. all 4 (operandRight (network (c .before .before .before .before .before .args .net .now)) (moduleOf (c .before .before .before .before .before .args .table .now)) p i)) 23 (c .before .before .line-count .result) (c .before .loop .k) (c .before .before .line-count .ensures .0) (c .before .loop .inv .1) (c .before .loop .inv .0) (c .loop-test .left)); sizes = (refl, refl) }
+returns-2 c =
+    let s = c .before .before .before .before .before in
+    let line-count = c .before .before .line-count in
+    let loop = c .before .loop in
+    let loop-test = c .loop-test in
+    record { refusal = sym (operands-tests _ _ ∙ tests-pass (s .args .table .now) (s .args .processors) (s .args .slots) (s .pre .0 .sized) (λ p i. all 4 (operandRight (network (s .args .net .now)) (moduleOf (s .args .table .now)) p i)) 23 (line-count .result) (loop .k) (line-count .ensures .0) (loop .inv .1) (loop .inv .0) (loop-test .left)); sizes = (refl, refl) }
 
 pub check-operands-spec : {M : Type 1} → statement M
 check-operands-spec =

@@ -1,7 +1,6 @@
-use Prim.Native.Nat.{ℕ, _+_, _≤_}
-use mathlib.Core.Path.{_≡_, refl, sym, _∙_}
+use mathlib.Core.Path.{_∙_}
 use native.Mathlib.Omega.{arith}
-use lib.ListN.{length, getD, getD-replicate}
+use lib.ListN.{getD-replicate}
 use Rattle.schedule.proofs.Counts.{counted-placed}
 use borrow.Author.Needs.{needs}
 use Rattle.schedule.proofs.check_placements.Statement.{statement}
@@ -20,7 +19,11 @@ find-unplaced-requires : tie.Need-find-unplaced-requires
 find-unplaced-requires c κs = search needs
 
 returns : tie.Need-returns
-returns c = λ n e. record { refusal = c .find-unplaced .ensures .refusal ∙ counted-placed _ _ _ (c .before .before .before .before .before .before .pre .1) (c .before .before .before .count-signals .ensures) n e; sizes = c .find-unplaced .ensures .sizes }
+returns c =
+    let s = c .before .before .before .before .before .before in
+    let count-signals = c .before .before .before .count-signals in
+    let find-unplaced = c .find-unplaced in
+    λ n e. record { refusal = find-unplaced .ensures .refusal ∙ counted-placed _ _ _ (s .pre .1) (count-signals .ensures) n e; sizes = find-unplaced .ensures .sizes }
 
 pub check-placements-spec : {M : Type 1} → statement M
 check-placements-spec =

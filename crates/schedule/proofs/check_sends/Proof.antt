@@ -1,10 +1,11 @@
-use Prim.Native.Nat.{ℕ, _+_, _*_, _-_, _/_, _%_, _≤_}
-use mathlib.Core.Path.{_≡_, refl, sym, ap, _∙_}
+-- The invariant: the lines before line k send rightly.
+use Prim.Native.Nat.{_-_, _≤_, _<_, _*_}
+use mathlib.Core.Path.{_≡_, refl, sym}
 use native.Mathlib.Omega.{arith}
 use borrow.Author.Tests.{not-true, not-false}
 use Rattle.model.specs.Refusal.{pass, firstBelow}
-use Rattle.model.specs.Module.{sendRight, receptionRight}
-use Rattle.model.specs.Schedule.{moduleOf, sending, receiving}
+use Rattle.model.specs.Module.{sendRight}
+use Rattle.model.specs.Schedule.{moduleOf, sending}
 use Rattle.schedule.proofs.Slots.{at-processor, at-slot}
 use Rattle.schedule.proofs.Lines.{lineTest, test-stops, test-goes-on, tests-pass}
 use borrow.Author.Needs.{needs}
@@ -32,7 +33,16 @@ slot-of-requires : tie.Need-slot-of-requires Inv-loop μ-loop
 slot-of-requires c κs = search needs
 
 send-right-requires : tie.Need-send-right-requires Inv-loop μ-loop
-send-right-requires c κs = (c .before .before .before .before .before .before .pre, (omega (arith, c .before .processor-of .ensures, at-processor (c .before .before .before .before .before .before .args .table .now) (c .before .before .before .before .before .before .args .processors) (c .before .before .before .before .before .before .args .slots) (c .before .before .before .before .before .before .pre) (c .before .before .before .loop .k) (omega (arith, c .before .before .before .before .line-count .ensures .0))), omega (arith, c .slot-of .ensures, at-slot (c .before .before .before .before .before .before .args .table .now) (c .before .before .before .before .before .before .args .processors) (c .before .before .before .before .before .before .args .slots) (c .before .before .before .before .before .before .pre) (c .before .before .before .loop .k) (omega (arith, c .before .before .before .before .line-count .ensures .0)))))
+send-right-requires c κs =
+    let s = c .before .before .before .before .before .before in
+    let line-count = c .before .before .before .before .line-count in
+    let loop = c .before .before .before .loop in
+    let processor-of = c .before .processor-of in
+    let slot-of = c .slot-of in
+    let low : loop .k < s .args .processors * s .args .slots = omega (arith, line-count .ensures .0) in
+    let low-p : processor-of .result < s .args .processors = omega (arith, processor-of .ensures, at-processor (s .args .table .now) (s .args .processors) (s .args .slots) (s .pre) (loop .k) low) in
+    let low-i : slot-of .result < s .args .slots = omega (arith, slot-of .ensures, at-slot (s .args .table .now) (s .args .processors) (s .args .slots) (s .pre) (loop .k) low) in
+    (s .pre, (low-p, low-i))
 
 add-t10 : tie.Need-add-t10 Inv-loop μ-loop
 add-t10 c = search needs
@@ -42,7 +52,14 @@ cast-t11 c = search needs
 
 returns : tie.Need-returns Inv-loop μ-loop
 unfolding sending
-returns c = record { refusal = sym (test-stops (c .before .before .before .before .before .before .before .before .args .table .now) (c .before .before .before .before .before .before .before .before .args .processors) (c .before .before .before .before .before .before .before .before .args .slots) (c .before .before .before .before .before .before .before .before .pre .sized) (sendRight (moduleOf (c .before .before .before .before .before .before .before .before .args .table .now))) 24 (c .before .before .before .before .before .before .line-count .result) (c .before .before .before .before .before .loop .k) (c .before .before .before .before .before .before .line-count .ensures .0) (c .before .before .before .before .before .loop .inv .1) (c .before .before .before .before .loop-test .taken) (c .before .send-right .result) (cc) (not-true _ (c .if1 .taken))); sizes = tt }
+returns c =
+    let s = c .before .before .before .before .before .before .before .before in
+    let line-count = c .before .before .before .before .before .before .line-count in
+    let loop = c .before .before .before .before .before .loop in
+    let loop-test = c .before .before .before .before .loop-test in
+    let send-right = c .before .send-right in
+    let if1 = c .if1 in
+    record { refusal = sym (test-stops (s .args .table .now) (s .args .processors) (s .args .slots) (s .pre .sized) (sendRight (moduleOf (s .args .table .now))) 24 (line-count .result) (loop .k) (line-count .ensures .0) (loop .inv .1) (loop-test .taken) (send-right .result) (cc) (not-true _ (if1 .taken))); sizes = tt }
 
 add-k : tie.Need-add-k Inv-loop μ-loop
 add-k c = search needs
@@ -51,11 +68,22 @@ loop-less : tie.Need-loop-less Inv-loop μ-loop
 loop-less c = search needs
 
 loop-again : tie.Need-loop-again Inv-loop μ-loop
-loop-again c = (omega arith, test-goes-on (c .before .before .before .before .before .before .before .before .args .table .now) (c .before .before .before .before .before .before .before .before .args .processors) (c .before .before .before .before .before .before .before .before .args .slots) (c .before .before .before .before .before .before .before .before .pre .sized) (sendRight (moduleOf (c .before .before .before .before .before .before .before .before .args .table .now))) 24 (c .before .before .before .before .before .before .line-count .result) (c .before .before .before .before .before .loop .k) (c .before .before .before .before .before .before .line-count .ensures .0) (c .before .before .before .before .before .loop .inv .1) (c .before .send-right .result) (cc) (not-false _ (c .if1 .left)))
+loop-again c =
+    let s = c .before .before .before .before .before .before .before .before in
+    let line-count = c .before .before .before .before .before .before .line-count in
+    let loop = c .before .before .before .before .before .loop in
+    let send-right = c .before .send-right in
+    let if1 = c .if1 in
+    (omega arith, test-goes-on (s .args .table .now) (s .args .processors) (s .args .slots) (s .pre .sized) (sendRight (moduleOf (s .args .table .now))) 24 (line-count .result) (loop .k) (line-count .ensures .0) (loop .inv .1) (send-right .result) (cc) (not-false _ (if1 .left)))
 
 returns-2 : tie.Need-returns-2 Inv-loop μ-loop
 unfolding sending
-returns-2 c = record { refusal = sym (tests-pass (c .before .before .before .before .args .table .now) (c .before .before .before .before .args .processors) (c .before .before .before .before .args .slots) (c .before .before .before .before .pre .sized) (sendRight (moduleOf (c .before .before .before .before .args .table .now))) 24 (c .before .before .line-count .result) (c .before .loop .k) (c .before .before .line-count .ensures .0) (c .before .loop .inv .1) (c .before .loop .inv .0) (c .loop-test .left)); sizes = (refl, refl) }
+returns-2 c =
+    let s = c .before .before .before .before in
+    let line-count = c .before .before .line-count in
+    let loop = c .before .loop in
+    let loop-test = c .loop-test in
+    record { refusal = sym (tests-pass (s .args .table .now) (s .args .processors) (s .args .slots) (s .pre .sized) (sendRight (moduleOf (s .args .table .now))) 24 (line-count .result) (loop .k) (line-count .ensures .0) (loop .inv .1) (loop .inv .0) (loop-test .left)); sizes = (refl, refl) }
 
 pub check-sends-spec : {M : Type 1} → statement M
 check-sends-spec =

@@ -1,5 +1,4 @@
-use mathlib.Core.Path.{_≡_, refl, sym, ap}
-use native.Mathlib.Omega.{arith}
+use mathlib.Core.Path.{refl, sym}
 use Rattle.schedule.proofs.Lines.{surplus, no-surplus}
 use borrow.Author.Needs.{needs}
 use Rattle.schedule.proofs.check_surplus.Statement.{statement}

@@ -1,5 +1,6 @@
-use Prim.Native.Nat.{ℕ, _+_, _*_, _-_, _≤_}
-use mathlib.Core.Path.{_≡_, refl, sym, _∙_, ap}
+-- The invariant: the array has, at every signal, how often the lines before line k have it.
+use Prim.Native.Nat.{ℕ, _+_, _*_, _-_, _≤_, _<_}
+use mathlib.Core.Path.{_≡_, refl, _∙_}
 use native.Mathlib.Omega.{arith}
 use lib.ListN.{length, getD, length-set}
 use Rattle.logic.specs.Test.{total}
@@ -34,7 +35,13 @@ add-number-at-2 : tie.Need-add-number-at-2 Inv-loop μ-loop
 add-number-at-2 c = search needs
 
 number-at-requires : tie.Need-number-at-requires Inv-loop μ-loop
-number-at-requires c κs = field-of-line _ (85 * (c .before .loop .k + 1)) 14 (laid-line (c .before .before .before .before .before .args .table .now) (c .before .before .before .before .before .args .processors) (c .before .before .before .before .before .args .slots) (c .before .before .before .before .before .pre .0) (c .before .loop .k) (omega (arith, c .before .before .line-count .ensures .0))) 2 (85 * (c .before .loop .k + 1) + 12) (omega arith) (omega arith)
+number-at-requires c κs =
+    let s = c .before .before .before .before .before in
+    let line-count = c .before .before .line-count in
+    let loop = c .before .loop in
+    let low : loop .k < s .args .processors * s .args .slots = omega (arith, line-count .ensures .0) in
+    let line = laid-line (s .args .table .now) (s .args .processors) (s .args .slots) (s .pre .0) (loop .k) low in
+    field-of-line _ (85 * (loop .k + 1)) 14 line 2 (85 * (loop .k + 1) + 12) (omega arith) (omega arith)
 
 cast-signal : tie.Need-cast-signal Inv-loop μ-loop
 cast-signal c = search needs
@@ -43,13 +50,37 @@ mul-counts : tie.Need-mul-counts Inv-loop μ-loop
 mul-counts c = search needs
 
 slice-read-counts : tie.Need-slice-read-counts Inv-loop μ-loop
-slice-read-counts c = omega (arith, c .before .number-at .ensures, c .before .before .before .loop .inv .1, c .before .before .before .before .before .before .before .pre .1 .0, laid-signal (c .before .before .before .before .before .before .before .args .table .now) (c .before .before .before .before .before .before .before .args .processors) (c .before .before .before .before .before .before .before .args .slots) (c .before .before .before .before .before .before .before .pre .0) (c .before .before .before .loop .k) (omega (arith, c .before .before .before .before .line-count .ensures .0)))
+slice-read-counts c =
+    let s = c .before .before .before .before .before .before .before in
+    let line-count = c .before .before .before .before .line-count in
+    let loop = c .before .before .before .loop in
+    let number-at = c .before .number-at in
+    let low : loop .k < s .args .processors * s .args .slots = omega (arith, line-count .ensures .0) in
+    let small = laid-signal (s .args .table .now) (s .args .processors) (s .args .slots) (s .pre .0) (loop .k) low in
+    let x : number-at .result ≤ 4096 = omega (arith, number-at .ensures, small) in
+    omega (arith, x, loop .inv .1, s .pre .1 .0)
 
 add-counts : tie.Need-add-counts Inv-loop μ-loop
-add-counts c = let x : c .before .number-at .result ≤ 4096 = omega (arith, c .before .number-at .ensures, laid-signal (c .before .before .before .before .before .before .before .args .table .now) (c .before .before .before .before .before .before .before .args .processors) (c .before .before .before .before .before .before .before .args .slots) (c .before .before .before .before .before .before .before .pre .0) (c .before .before .before .loop .k) (omega (arith, c .before .before .before .before .line-count .ensures .0))) in omega (arith, c .before .before .before .loop .inv .2 (c .before .number-at .result) x, counted-few (c .before .before .before .before .before .before .before .args .table .now) (c .before .before .before .loop .k) (c .before .number-at .result), c .before .before .before .before .line-count .ensures .1)
+add-counts c =
+    let s = c .before .before .before .before .before .before .before in
+    let line-count = c .before .before .before .before .line-count in
+    let loop = c .before .before .before .loop in
+    let number-at = c .before .number-at in
+    let low : loop .k < s .args .processors * s .args .slots = omega (arith, line-count .ensures .0) in
+    let small = laid-signal (s .args .table .now) (s .args .processors) (s .args .slots) (s .pre .0) (loop .k) low in
+    let x : number-at .result ≤ 4096 = omega (arith, number-at .ensures, small) in
+    omega (arith, loop .inv .2 (number-at .result) x, counted-few (s .args .table .now) (loop .k) (number-at .result), line-count .ensures .1)
 
 slice-write-counts : tie.Need-slice-write-counts Inv-loop μ-loop
-slice-write-counts c = omega (arith, c .before .number-at .ensures, c .before .before .before .loop .inv .1, c .before .before .before .before .before .before .before .pre .1 .0, laid-signal (c .before .before .before .before .before .before .before .args .table .now) (c .before .before .before .before .before .before .before .args .processors) (c .before .before .before .before .before .before .before .args .slots) (c .before .before .before .before .before .before .before .pre .0) (c .before .before .before .loop .k) (omega (arith, c .before .before .before .before .line-count .ensures .0)))
+slice-write-counts c =
+    let s = c .before .before .before .before .before .before .before in
+    let line-count = c .before .before .before .before .line-count in
+    let loop = c .before .before .before .loop in
+    let number-at = c .before .number-at in
+    let low : loop .k < s .args .processors * s .args .slots = omega (arith, line-count .ensures .0) in
+    let small = laid-signal (s .args .table .now) (s .args .processors) (s .args .slots) (s .pre .0) (loop .k) low in
+    let x : number-at .result ≤ 4096 = omega (arith, number-at .ensures, small) in
+    omega (arith, x, loop .inv .1, s .pre .1 .0)
 
 add-k : tie.Need-add-k Inv-loop μ-loop
 add-k c = search needs
@@ -58,13 +89,25 @@ loop-less : tie.Need-loop-less Inv-loop μ-loop
 loop-less c = search needs
 
 loop-again : tie.Need-loop-again Inv-loop μ-loop
-loop-again c = (omega arith, simp length-set (c .before .before .before .loop .inv .1), count-more (c .before .before .before .loop .counts) _ _ _ (c .before .before .before .loop .inv .1 ∙ c .before .before .before .before .before .before .before .pre .1 .0) (omega (arith, c .before .number-at .ensures, laid-signal (c .before .before .before .before .before .before .before .args .table .now) (c .before .before .before .before .before .before .before .args .processors) (c .before .before .before .before .before .before .before .args .slots) (c .before .before .before .before .before .before .before .pre .0) (c .before .before .before .loop .k) (omega (arith, c .before .before .before .before .line-count .ensures .0)))) (c .before .number-at .ensures) (c .before .before .before .loop .inv .2))
+loop-again c =
+    let s = c .before .before .before .before .before .before .before in
+    let line-count = c .before .before .before .before .line-count in
+    let loop = c .before .before .before .loop in
+    let number-at = c .before .number-at in
+    let low : loop .k < s .args .processors * s .args .slots = omega (arith, line-count .ensures .0) in
+    let small = laid-signal (s .args .table .now) (s .args .processors) (s .args .slots) (s .pre .0) (loop .k) low in
+    let x : number-at .result ≤ 4096 = omega (arith, number-at .ensures, small) in
+    (omega arith, simp length-set (loop .inv .1), count-more (loop .counts) _ _ _ (loop .inv .1 ∙ s .pre .1 .0) x (number-at .ensures) (loop .inv .2))
 
 same-length : tie.Need-same-length Inv-loop μ-loop
 same-length c = search needs
 
 returns : tie.Need-returns Inv-loop μ-loop
-returns c = λ s low. let e : c .before .loop .k ≡ c .before .before .line-count .result = omega arith in c .before .loop .inv .2 s low ∙ (rw e (counted-all _ _ _ _ s (c .before .before .before .before .before .pre .0 .sized) (c .before .before .line-count .ensures .0)))
+returns c =
+    let s = c .before .before .before .before .before in
+    let line-count = c .before .before .line-count in
+    let loop = c .before .loop in
+    λ s' low. let e : loop .k ≡ line-count .result = omega arith in loop .inv .2 s' low ∙ (rw e (counted-all _ _ _ _ s' (s .pre .0 .sized) (line-count .ensures .0)))
 
 pub count-signals-spec : {M : Type 1} → statement M
 count-signals-spec =

@@ -1,6 +1,4 @@
-use mathlib.Core.Path.{_≡_, sym}
-use native.Mathlib.Omega.{arith}
-use lib.ListN.{getD, List·getD-eq-default}
+use lib.ListN.{List·getD-eq-default}
 use borrow.Author.Needs.{needs}
 use Rattle.schedule.proofs.ends_at.Statement.{statement}
 use Rattle.schedule.proofs.ends_at.Tie as tie

@@ -1,5 +1,6 @@
-use Prim.Native.Nat.{ℕ, suc, _+_, _-_, _≤_}
-use mathlib.Core.Path.{_≡_, refl, sym, _∙_}
+-- The invariant: every signal up to this one is counted once.
+use Prim.Native.Nat.{suc, _-_, _≤_}
+use mathlib.Core.Path.{_≡_, refl, sym}
 use native.Mathlib.Omega.{arith}
 use lib.Dec.{eqb}
 use lib.ListN.{getD}
@@ -33,16 +34,27 @@ shared-slice-read-if1 : tie.Need-shared-slice-read-if1 Inv-loop μ-loop
 shared-slice-read-if1 c = search needs
 
 returns : tie.Need-returns Inv-loop μ-loop
-returns c = record { refusal = sym (once-stops _ _ _ (c .before .before .before .loop .inv .1) (c .before .before .loop-test .taken) (c .if1 .taken)); sizes = tt }
+returns c =
+    let loop = c .before .before .before .loop in
+    let loop-test = c .before .before .loop-test in
+    let if1 = c .if1 in
+    record { refusal = sym (once-stops _ _ _ (loop .inv .1) (loop-test .taken) (if1 .taken)); sizes = tt }
 
 loop-less : tie.Need-loop-less Inv-loop μ-loop
 loop-less c = search needs
 
 loop-again : tie.Need-loop-again Inv-loop μ-loop
-loop-again c = (omega arith, once-goes-on 0 (c .before .before .before .before .args .counts .now) _ (c .before .before .before .loop .inv .1) (c .if1 .left))
+loop-again c =
+    let s = c .before .before .before .before in
+    let loop = c .before .before .before .loop in
+    let if1 = c .if1 in
+    (omega arith, once-goes-on 0 (s .args .counts .now) _ (loop .inv .1) (if1 .left))
 
 returns-2 : tie.Need-returns-2 Inv-loop μ-loop
-returns-2 c = record { refusal = sym (once-all _ _ _ (c .before .loop .inv .1) (c .before .loop .inv .0) (c .loop-test .left)); sizes = (refl, refl) }
+returns-2 c =
+    let loop = c .before .loop in
+    let loop-test = c .loop-test in
+    record { refusal = sym (once-all _ _ _ (loop .inv .1) (loop .inv .0) (loop-test .left)); sizes = (refl, refl) }
 
 pub find-unplaced-spec : {M : Type 1} → statement M
 find-unplaced-spec =

@@ -1,4 +1,3 @@
-use mathlib.Core.Path.{_≡_, sym}
 use Rattle.schedule.proofs.Named.{none-apart}
 use Rattle.schedule.proofs.Told.{not-none}
 use borrow.Author.Needs.{needs}

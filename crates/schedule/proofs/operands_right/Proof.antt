@@ -1,5 +1,4 @@
-use Prim.Native.Nat.{ℕ, _+_, _*_, _<_}
-use mathlib.Core.Path.{_≡_, refl, sym, _∙_, ap}
+use mathlib.Core.Path.{sym, _∙_, ap}
 use native.Mathlib.Omega.{arith}
 use Rattle.logic.specs.Test.{_and_}
 use Rattle.schedule.specs.declared.Instruction.{Instruction}

@@ -1,7 +1,5 @@
 use mathlib.Core.Path.{sym}
-use native.Mathlib.Omega.{arith}
 use Rattle.schedule.proofs.Judged.{pair-far, pair-none, pair-part}
-use borrow.Author.Needs.{needs}
 use Rattle.schedule.proofs.pair_right.Statement.{statement}
 use Rattle.schedule.proofs.pair_right.Tie as tie
 

@@ -1,8 +1,6 @@
-use Prim.Native.Nat.{ℕ, _<_}
-use mathlib.Core.Path.{_≡_, sym, _∙_, ap}
+use mathlib.Core.Path.{sym, ap}
 use native.Mathlib.Omega.{arith}
-use Rattle.operands.specs.Operand.{partOf, locationOf}
-use Rattle.operands.specs.declared.Operand.{Operand}
+use Rattle.operands.specs.Operand.{locationOf}
 use Rattle.schedule.proofs.Sources.{reads-none}
 use borrow.Author.Needs.{needs}
 use Rattle.schedule.proofs.reads_source.Statement.{statement}
@@ -15,7 +13,10 @@ cast-local-earlier-right : tie.Need-cast-local-earlier-right
 cast-local-earlier-right c = search needs
 
 local-earlier-right-requires : tie.Need-local-earlier-right-requires
-local-earlier-right-requires c κs = (c .before .before .before .before .pre .0, (c .before .before .before .before .pre .1 .0, omega (arith, c .before .before .before .before .pre .1 .1, ap locationOf (c .before .a .given .1))))
+local-earlier-right-requires c κs =
+    let s = c .before .before .before .before in
+    let a = c .before .a in
+    (s .pre .0, (s .pre .1 .0, omega (arith, s .pre .1 .1, ap locationOf (a .given .1))))
 
 enum-known-a-2 : tie.Need-enum-known-a-2
 enum-known-a-2 c = search needs
@@ -24,7 +25,10 @@ cast-local-present-right : tie.Need-cast-local-present-right
 cast-local-present-right c = search needs
 
 local-present-right-requires : tie.Need-local-present-right-requires
-local-present-right-requires c κs = (c .before .before .before .before .pre .0, (c .before .before .before .before .pre .1 .0, omega (arith, c .before .before .before .before .pre .1 .1, ap locationOf (c .before .a2 .given .1))))
+local-present-right-requires c κs =
+    let s = c .before .before .before .before in
+    let a2 = c .before .a2 in
+    (s .pre .0, (s .pre .1 .0, omega (arith, s .pre .1 .1, ap locationOf (a2 .given .1))))
 
 enum-known-a-3 : tie.Need-enum-known-a-3
 enum-known-a-3 c = search needs
@@ -33,7 +37,10 @@ cast-switch-earlier-right : tie.Need-cast-switch-earlier-right
 cast-switch-earlier-right c = search needs
 
 switch-earlier-right-requires : tie.Need-switch-earlier-right-requires
-switch-earlier-right-requires c κs = (c .before .before .before .before .pre .0, (c .before .before .before .before .pre .1 .0, omega (arith, c .before .before .before .before .pre .1 .1, ap locationOf (c .before .a3 .given .1))))
+switch-earlier-right-requires c κs =
+    let s = c .before .before .before .before in
+    let a3 = c .before .a3 in
+    (s .pre .0, (s .pre .1 .0, omega (arith, s .pre .1 .1, ap locationOf (a3 .given .1))))
 
 enum-known-a-4 : tie.Need-enum-known-a-4
 enum-known-a-4 c = search needs
@@ -42,7 +49,10 @@ cast-switch-present-right : tie.Need-cast-switch-present-right
 cast-switch-present-right c = search needs
 
 switch-present-right-requires : tie.Need-switch-present-right-requires
-switch-present-right-requires c κs = (c .before .before .before .before .pre .0, (c .before .before .before .before .pre .1 .0, omega (arith, c .before .before .before .before .pre .1 .1, ap locationOf (c .before .a4 .given .1))))
+switch-present-right-requires c κs =
+    let s = c .before .before .before .before in
+    let a4 = c .before .a4 in
+    (s .pre .0, (s .pre .1 .0, omega (arith, s .pre .1 .1, ap locationOf (a4 .given .1))))
 
 enum-told : tie.Need-enum-told
 enum-told c = search needs

@@ -1,9 +1,8 @@
 use mathlib.Core.Path.{ap}
-use Rattle.operands.specs.Operand.{partOf, locationOf}
+use Rattle.operands.specs.Operand.{locationOf}
 use Rattle.schedule.specs.declared.Instruction.{Instruction}
 use Rattle.schedule.proofs.Named.{send-has, send-local, send-low, send-none, send-earlier, send-late, send-present}
-use Prim.Native.Nat.{ℕ, _+_}
-use mathlib.Core.Path.{_≡_, sym, _∙_}
+use mathlib.Core.Path.{sym}
 use native.Mathlib.Omega.{arith}
 use borrow.Author.Needs.{needs}
 use Rattle.schedule.proofs.send_right.Statement.{statement}
@@ -19,7 +18,15 @@ cast-signal-at : tie.Need-cast-signal-at
 cast-signal-at c = search needs
 
 signal-at-requires : tie.Need-signal-at-requires
-signal-at-requires c κs = (c .before .before .before .before .before .pre .0, (c .before .before .before .before .before .pre .1 .0, omega (arith, send-low (c .before .before .before .before .before .args .table .now) (c .before .before .before .before .before .args .processors) (c .before .before .before .before .before .args .slots) (c .before .before .before .before .before .pre .0) (c .before .before .before .before .before .args .processor) (c .before .before .before .before .before .args .slot) (c .before .before .before .before .before .pre .1 .0) (c .before .before .before .before .before .pre .1 .1), (send-has (c .before .before .before .before .before .args .table .now) (c .before .before .before .before .before .args .processors) (c .before .before .before .before .before .args .slots) (c .before .before .before .before .before .pre .0) (c .before .before .before .before .before .args .processor) (c .before .before .before .before .before .args .slot) (c .before .before .before .before .before .pre .1 .0) (c .before .before .before .before .before .pre .1 .1) (c .before .before .before .instruction-at .result .send) (ap (λ (r : Instruction). r .send) (c .before .before .before .instruction-at .ensures))) .location-is, ap locationOf (c .before .send .given .1))))
+signal-at-requires c κs =
+    let s = c .before .before .before .before .before in
+    let instruction-at = c .before .before .before .instruction-at in
+    let send = c .before .send in
+    let low = send-low (s .args .table .now) (s .args .processors) (s .args .slots) (s .pre .0) (s .args .processor) (s .args .slot) (s .pre .1 .0) (s .pre .1 .1) in
+    let a = instruction-at .result .send in
+    let named = ap (λ (r : Instruction). r .send) (instruction-at .ensures) in
+    let has = send-has (s .args .table .now) (s .args .processors) (s .args .slots) (s .pre .0) (s .args .processor) (s .args .slot) (s .pre .1 .0) (s .pre .1 .1) a named in
+    (s .pre .0, (s .pre .1 .0, omega (arith, low, has .location-is, ap locationOf (send .given .1))))
 
 enum-known-send-2 : tie.Need-enum-known-send-2
 enum-known-send-2 c = search needs
@@ -28,13 +35,29 @@ cast-if1 : tie.Need-cast-if1
 cast-if1 c = search needs
 
 returns : tie.Need-returns
-returns c = send-late _ _ _ _ (send-has (c .before .before .before .before .before .before .args .table .now) (c .before .before .before .before .before .before .args .processors) (c .before .before .before .before .before .before .args .slots) (c .before .before .before .before .before .before .pre .0) (c .before .before .before .before .before .before .args .processor) (c .before .before .before .before .before .before .args .slot) (c .before .before .before .before .before .before .pre .1 .0) (c .before .before .before .before .before .before .pre .1 .1) (c .before .before .before .before .instruction-at .result .send) (ap (λ (r : Instruction). r .send) (c .before .before .before .before .instruction-at .ensures))) _ (c .before .before .send2 .given .1) (c .if1 .taken)
+returns c =
+    let instruction-at = c .before .before .before .before .instruction-at in
+    let s = c .before .before .before .before .before .before in
+    let send2 = c .before .before .send2 in
+    let if1 = c .if1 in
+    let a = instruction-at .result .send in
+    let named = ap (λ (r : Instruction). r .send) (instruction-at .ensures) in
+    let has = send-has (s .args .table .now) (s .args .processors) (s .args .slots) (s .pre .0) (s .args .processor) (s .args .slot) (s .pre .1 .0) (s .pre .1 .1) a named in
+    send-late _ _ _ _ has _ (send2 .given .1) (if1 .taken)
 
 cast-signal-at-2 : tie.Need-cast-signal-at-2
 cast-signal-at-2 c = search needs
 
 signal-at-requires-2 : tie.Need-signal-at-requires-2
-signal-at-requires-2 c κs = (c .before .before .before .before .before .before .pre .0, (c .before .before .before .before .before .before .pre .1 .0, omega (arith, send-low (c .before .before .before .before .before .before .args .table .now) (c .before .before .before .before .before .before .args .processors) (c .before .before .before .before .before .before .args .slots) (c .before .before .before .before .before .before .pre .0) (c .before .before .before .before .before .before .args .processor) (c .before .before .before .before .before .before .args .slot) (c .before .before .before .before .before .before .pre .1 .0) (c .before .before .before .before .before .before .pre .1 .1), (send-has (c .before .before .before .before .before .before .args .table .now) (c .before .before .before .before .before .before .args .processors) (c .before .before .before .before .before .before .args .slots) (c .before .before .before .before .before .before .pre .0) (c .before .before .before .before .before .before .args .processor) (c .before .before .before .before .before .before .args .slot) (c .before .before .before .before .before .before .pre .1 .0) (c .before .before .before .before .before .before .pre .1 .1) (c .before .before .before .before .instruction-at .result .send) (ap (λ (r : Instruction). r .send) (c .before .before .before .before .instruction-at .ensures))) .location-is, ap locationOf (c .before .before .send2 .given .1))))
+signal-at-requires-2 c κs =
+    let s = c .before .before .before .before .before .before in
+    let instruction-at = c .before .before .before .before .instruction-at in
+    let send2 = c .before .before .send2 in
+    let low = send-low (s .args .table .now) (s .args .processors) (s .args .slots) (s .pre .0) (s .args .processor) (s .args .slot) (s .pre .1 .0) (s .pre .1 .1) in
+    let a = instruction-at .result .send in
+    let named = ap (λ (r : Instruction). r .send) (instruction-at .ensures) in
+    let has = send-has (s .args .table .now) (s .args .processors) (s .args .slots) (s .pre .0) (s .args .processor) (s .args .slot) (s .pre .1 .0) (s .pre .1 .1) a named in
+    (s .pre .0, (s .pre .1 .0, omega (arith, low, has .location-is, ap locationOf (send2 .given .1))))
 
 enum-told : tie.Need-enum-told
 enum-told c = search needs
@@ -46,19 +69,55 @@ enum-told-3 : tie.Need-enum-told-3
 enum-told-3 c = search needs
 
 returns-2 : tie.Need-returns-2
-returns-2 c = send-earlier _ _ _ _ (send-has (c .before .before .before .before .before .before .args .table .now) (c .before .before .before .before .before .before .args .processors) (c .before .before .before .before .before .before .args .slots) (c .before .before .before .before .before .before .pre .0) (c .before .before .before .before .before .before .args .processor) (c .before .before .before .before .before .before .args .slot) (c .before .before .before .before .before .before .pre .1 .0) (c .before .before .before .before .before .before .pre .1 .1) (c .before .before .before .before .instruction-at .result .send) (ap (λ (r : Instruction). r .send) (c .before .before .before .before .instruction-at .ensures))) _ _ (c .before .before .send .given .1) (c .signal-at .ensures)
+returns-2 c =
+    let instruction-at = c .before .before .before .before .instruction-at in
+    let s = c .before .before .before .before .before .before in
+    let send = c .before .before .send in
+    let signal-at = c .signal-at in
+    let a = instruction-at .result .send in
+    let named = ap (λ (r : Instruction). r .send) (instruction-at .ensures) in
+    let has = send-has (s .args .table .now) (s .args .processors) (s .args .slots) (s .pre .0) (s .args .processor) (s .args .slot) (s .pre .1 .0) (s .pre .1 .1) a named in
+    send-earlier _ _ _ _ has _ _ (send .given .1) (signal-at .ensures)
 
 returns-3 : tie.Need-returns-3
-returns-3 c = send-present _ _ _ _ (send-has (c .before .before .before .before .before .before .before .args .table .now) (c .before .before .before .before .before .before .before .args .processors) (c .before .before .before .before .before .before .before .args .slots) (c .before .before .before .before .before .before .before .pre .0) (c .before .before .before .before .before .before .before .args .processor) (c .before .before .before .before .before .before .before .args .slot) (c .before .before .before .before .before .before .before .pre .1 .0) (c .before .before .before .before .before .before .before .pre .1 .1) (c .before .before .before .before .before .instruction-at .result .send) (ap (λ (r : Instruction). r .send) (c .before .before .before .before .before .instruction-at .ensures))) _ _ (c .before .before .before .send2 .given .1) (c .before .if1 .left) (c .signal-at2 .ensures)
+returns-3 c =
+    let instruction-at = c .before .before .before .before .before .instruction-at in
+    let s = c .before .before .before .before .before .before .before in
+    let send2 = c .before .before .before .send2 in
+    let if1 = c .before .if1 in
+    let signal-at2 = c .signal-at2 in
+    let a = instruction-at .result .send in
+    let named = ap (λ (r : Instruction). r .send) (instruction-at .ensures) in
+    let has = send-has (s .args .table .now) (s .args .processors) (s .args .slots) (s .pre .0) (s .args .processor) (s .args .slot) (s .pre .1 .0) (s .pre .1 .1) a named in
+    send-present _ _ _ _ has _ _ (send2 .given .1) (if1 .left) (signal-at2 .ensures)
 
 returns-4 : tie.Need-returns-4
-returns-4 c = absurd (send-local (c .before .before .before .before .args .table .now) (c .before .before .before .before .args .processors) (c .before .before .before .before .args .slots) (c .before .before .before .before .pre .0) (c .before .before .before .before .args .processor) (c .before .before .before .before .args .slot) (c .before .before .before .before .pre .1 .0) (c .before .before .before .before .pre .1 .1) (c .before .before .instruction-at .result .send) (ap (λ (r : Instruction). r .send) (c .before .before .instruction-at .ensures)) (rw (c .enum-told .given .1) (omega arith)) (rw (c .enum-told .given .1) (omega arith)))
+returns-4 c =
+    let instruction-at = c .before .before .instruction-at in
+    let s = c .before .before .before .before in
+    let enum-told = c .enum-told in
+    let a = instruction-at .result .send in
+    let named = ap (λ (r : Instruction). r .send) (instruction-at .ensures) in
+    absurd (send-local (s .args .table .now) (s .args .processors) (s .args .slots) (s .pre .0) (s .args .processor) (s .args .slot) (s .pre .1 .0) (s .pre .1 .1) a named (rw (enum-told .given .1) (omega arith)) (rw (enum-told .given .1) (omega arith)))
 
 returns-5 : tie.Need-returns-5
-returns-5 c = absurd (send-local (c .before .before .before .before .args .table .now) (c .before .before .before .before .args .processors) (c .before .before .before .before .args .slots) (c .before .before .before .before .pre .0) (c .before .before .before .before .args .processor) (c .before .before .before .before .args .slot) (c .before .before .before .before .pre .1 .0) (c .before .before .before .before .pre .1 .1) (c .before .before .instruction-at .result .send) (ap (λ (r : Instruction). r .send) (c .before .before .instruction-at .ensures)) (rw (c .enum-told2 .given .1) (omega arith)) (rw (c .enum-told2 .given .1) (omega arith)))
+returns-5 c =
+    let instruction-at = c .before .before .instruction-at in
+    let s = c .before .before .before .before in
+    let enum-told2 = c .enum-told2 in
+    let a = instruction-at .result .send in
+    let named = ap (λ (r : Instruction). r .send) (instruction-at .ensures) in
+    absurd (send-local (s .args .table .now) (s .args .processors) (s .args .slots) (s .pre .0) (s .args .processor) (s .args .slot) (s .pre .1 .0) (s .pre .1 .1) a named (rw (enum-told2 .given .1) (omega arith)) (rw (enum-told2 .given .1) (omega arith)))
 
 returns-6 : tie.Need-returns-6
-returns-6 c = sym (send-none _ _ _ _ (send-has (c .before .before .before .before .args .table .now) (c .before .before .before .before .args .processors) (c .before .before .before .before .args .slots) (c .before .before .before .before .pre .0) (c .before .before .before .before .args .processor) (c .before .before .before .before .args .slot) (c .before .before .before .before .pre .1 .0) (c .before .before .before .before .pre .1 .1) (c .before .before .instruction-at .result .send) (ap (λ (r : Instruction). r .send) (c .before .before .instruction-at .ensures))) (c .enum-told3 .given .1))
+returns-6 c =
+    let instruction-at = c .before .before .instruction-at in
+    let s = c .before .before .before .before in
+    let enum-told3 = c .enum-told3 in
+    let a = instruction-at .result .send in
+    let named = ap (λ (r : Instruction). r .send) (instruction-at .ensures) in
+    let has = send-has (s .args .table .now) (s .args .processors) (s .args .slots) (s .pre .0) (s .args .processor) (s .args .slot) (s .pre .1 .0) (s .pre .1 .1) a named in
+    sym (send-none _ _ _ _ has (enum-told3 .given .1))
 
 pub send-right-spec : {M : Type 1} → statement M
 send-right-spec =

@@ -1,8 +1,6 @@
-use mathlib.Core.Path.{_≡_, refl, sym, ap, _∙_}
-use Prim.Native.Nat.{ℕ}
-use lib.Dec.{eqb}
-use Rattle.schedule.proofs.Judged.{equal-stops, equal-goes-on, low-stops, low-goes-on}
-use Rattle.schedule.proofs.Sources.{reads-local-earlier, reads-local-present, reads-switch-earlier, reads-switch-present}
+use mathlib.Core.Path.{sym, _∙_}
+use Rattle.schedule.proofs.Judged.{low-stops, low-goes-on}
+use Rattle.schedule.proofs.Sources.{reads-switch-present}
 use borrow.Author.Needs.{needs}
 use Rattle.schedule.proofs.switch_present_right.Statement.{statement}
 use Rattle.schedule.proofs.switch_present_right.Tie as tie

@@ -1,3 +1,4 @@
+-- The invariant: the first k of the twelve fields are zeros.
 use Prim.Native.Nat.{_≤_, _-_, _+_, _*_}
 use mathlib.Core.Path.{_≡_, sym, _∙_}
 use mathlib.Core.Bool.{true}
@@ -27,10 +28,17 @@ add-number-at : tie.Need-add-number-at Inv-loop μ-loop
 add-number-at c = search needs
 
 number-at-requires : tie.Need-number-at-requires Inv-loop μ-loop
-number-at-requires c κs = field-of-line _ 0 14 (c .before .before .before .pre) (2 + c .before .loop .k) (12 + 6 * c .before .loop .k) (omega arith) (omega arith)
+number-at-requires c κs =
+    let s = c .before .before .before in
+    let loop = c .before .loop in
+    field-of-line _ 0 14 (s .pre) (2 + loop .k) (12 + 6 * loop .k) (omega arith) (omega arith)
 
 returns : tie.Need-returns Inv-loop μ-loop
-returns c = sym (zeros-stop _ _ (c .before .before .loop-test .taken) (λ e. c .if1 .taken (c .before .number-at .ensures ∙ e)))
+returns c =
+    let loop-test = c .before .before .loop-test in
+    let number-at = c .before .number-at in
+    let if1 = c .if1 in
+    sym (zeros-stop _ _ (loop-test .taken) (λ e. if1 .taken (number-at .ensures ∙ e)))
 
 add-k : tie.Need-add-k Inv-loop μ-loop
 add-k c = search needs
@@ -39,7 +47,11 @@ loop-less : tie.Need-loop-less Inv-loop μ-loop
 loop-less c = search needs
 
 loop-again : tie.Need-loop-again Inv-loop μ-loop
-loop-again c = (omega arith, zeros-go-on _ _ (c .before .before .before .loop .inv .1) (sym (c .before .number-at .ensures) ∙ c .if1 .left))
+loop-again c =
+    let loop = c .before .before .before .loop in
+    let number-at = c .before .number-at in
+    let if1 = c .if1 in
+    (omega arith, zeros-go-on _ _ (loop .inv .1) (sym (number-at .ensures) ∙ if1 .left))
 
 returns-2 : tie.Need-returns-2 Inv-loop μ-loop
 returns-2 c = let e : c .before .loop .k ≡ 12 = omega arith in sym (rw e at (c .before .loop .inv .1))
