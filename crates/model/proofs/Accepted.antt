@@ -187,7 +187,7 @@ located m most part k layout =
     }
 
 -- a check of each line after the first, at one of them: line k + 1 is that of processor k / C and slot k % C
-at-pass : (table : List ℕ) (f : ℕ → ℕ → Check) → eachLine table f ≡ pass → (p i : ℕ) → At (moduleOf table) p i → f p i ≡ pass
+pub at-pass : (table : List ℕ) (f : ℕ → ℕ → Check) → eachLine table f ≡ pass → (p i : ℕ) → At (moduleOf table) p i → f p i ≡ pass
 unfolding eachLine moduleOf
 at-pass table f h p i a =
     let C = modSlots table in
@@ -196,6 +196,25 @@ at-pass table f h p i a =
     let remainder : (p * C + i) % C ≡ i = mul-add-mod-self-right p C i ∙ mod-eq-of-lt (a .slot) in
     let low : p * C + i < modProcessors table * C = omega (arith, suc-mul p C, mul-le-mul-right C (a .processor), a .slot) in
     subst₂ (λ (x y : ℕ). f x y ≡ pass) quotient remainder (below-pass _ _ h (p * C + i) low)
+
+-- a line that passes 20 and 21 is right
+pub slot-right : (n : Network) (table : List ℕ) (p i : ℕ) → modSlot n table p i ≡ pass → SlotRight n table p i
+unfolding modSlot lineLayout operandLayout sendLayout senderLayout
+slot-right n table p i h =
+    let layout = unless-true _ _ _ (first-right _ _ h) in
+    let from-slot = and-right _ _ layout in
+    let from-signal = and-right _ _ from-slot in
+    let from-operands = and-right _ _ from-signal in
+    let from-send = and-right _ _ from-operands in
+    record {
+      line = unless-true _ _ _ (first-left _ _ h);
+      processor = eqb-true _ _ (and-left _ _ layout);
+      slot = eqb-true _ _ (and-left _ _ from-slot);
+      signal = leb-true _ _ (and-left _ _ from-signal);
+      operand = λ j l. located _ _ _ _ (all-at _ 4 (and-left _ _ from-operands) j l);
+      send = located _ _ _ _ (and-left _ _ from-send);
+      sender = ⊎-map (ltb-true _ _) (eqb-true _ _) (or-cases _ _ (and-right _ _ from-send));
+    }
 
 module _ (n : Network) (table : List ℕ) (accepted : modCheck n table ≡ pass) where
   mod-header : modHeader table ≡ pass
@@ -215,23 +234,7 @@ module _ (n : Network) (table : List ℕ) (accepted : modCheck n table ≡ pass)
   mod-slots = within (and-left _ _ (and-right _ _ (unless-true _ _ _ (first-right _ _ mod-header))))
 
   pub mod-slot : (p i : ℕ) → At (moduleOf table) p i → SlotRight n table p i
-  unfolding modSlot lineLayout operandLayout sendLayout senderLayout
-  mod-slot p i a =
-      let h = at-pass table (modSlot n table) mod-slots-pass p i a in
-      let layout = unless-true _ _ _ (first-right _ _ h) in
-      let from-slot = and-right _ _ layout in
-      let from-signal = and-right _ _ from-slot in
-      let from-operands = and-right _ _ from-signal in
-      let from-send = and-right _ _ from-operands in
-      record {
-        line = unless-true _ _ _ (first-left _ _ h);
-        processor = eqb-true _ _ (and-left _ _ layout);
-        slot = eqb-true _ _ (and-left _ _ from-slot);
-        signal = leb-true _ _ (and-left _ _ from-signal);
-        operand = λ j l. located _ _ _ _ (all-at _ 4 (and-left _ _ from-operands) j l);
-        send = located _ _ _ _ (and-left _ _ from-send);
-        sender = ⊎-map (ltb-true _ _) (eqb-true _ _) (or-cases _ _ (and-right _ _ from-send));
-      }
+  mod-slot p i a = slot-right n table p i (at-pass table (modSlot n table) mod-slots-pass p i a)
 
   pub mod-lines : (index : ℕ) → index ≤ modProcessors table * modSlots table → isLineAt table (modLine index) 14 ≡ true
   unfolding modHeader eachLine modSlot

@@ -1,72 +1,31 @@
 -- What the lines' check leaves: each line after the first is right (`SlotRight`), by processor and slot or by its number, and so are the
 -- fields that the later checks read.
 use Prim.Native.Nat.{ℕ, suc, _+_, _*_, _/_, _%_, _<_, _≤_}
-use mathlib.Core.Path.{_≡_, subst₂, ap, _∙_}
+use mathlib.Core.Path.{_≡_, ap, _∙_}
 use mathlib.Core.Bool.{true}
 use mathlib.Core.List.{List}
-use mathlib.Core.Logic.{_⊎_, inl, inr, ⊎-elim}
+use mathlib.Core.Logic.{⊎-elim}
 use native.Mathlib.Omega.{arith}
-use native.Mathlib.Nat.{suc-mul, mul-le-mul-right, mul-le-mul, div-eq-of-lt, mod-eq-of-lt, mul-add-div-right, mul-add-mod-self-right, div-lt-iff-lt-mul, mod-lt}
-use lib.Dec.{eqb, leb}
-use borrow.Author.Tests.{eqb-true, eqb-false, leb-true, ltb-true, not-true}
-use Rattle.logic.specs.Test.{_and_, _or_}
-use Rattle.logic.proofs.Tests.{and-left, and-right, all-at, or-cases, or-otherwise}
+use native.Mathlib.Nat.{suc-mul, mul-le-mul, div-lt-iff-lt-mul, mod-lt}
 use Rattle.fields.specs.Field.{isFieldAt, numberAt}
 use Rattle.fields.specs.Line.{isLineAt}
-use Rattle.model.specs.Refusal.{pass, first}
-use Rattle.model.specs.Network.{Network}
-use Rattle.model.specs.Module.{Module, noPart}
-use Rattle.model.specs.Schedule.{modLine, modField, modProcessors, modSlots, modIndex, moduleOf, locationLayout, operandLayout, sendLayout, senderLayout, lineLayout, modSlot, eachLine}
-use Rattle.model.proofs.Refusals.{first-left, first-right, unless-true, below-pass}
-use Rattle.model.proofs.Accepted.{Located, SlotRight}
+use Rattle.model.specs.Schedule.{modLine, modField, modProcessors, modSlots, modIndex, moduleOf, modSlot, eachLine}
+use Rattle.model.proofs.Refusals.{below-pass}
+use Rattle.model.proofs.Accepted.{SlotRight, slot-right, at-pass}
 use Rattle.operands.specs.Operand.{operandOf}
 use Rattle.schedule.specs.Answer.{Laid}
 use Rattle.schedule.proofs.Header.{field-of-line}
 use Rattle.schedule.proofs.Lines.{line-index, line-total}
 
-located : (m : Module) (most part k : ℕ) → (leb part most or eqb part noPart) and locationLayout m part k ≡ true → Located m most part k
-unfolding locationLayout
-located m most part k layout =
-    let place = and-right _ _ layout in
-    record {
-      part-known = ⊎-elim (λ e. inl (leb-true _ _ e)) (λ e. inr (eqb-true _ _ e)) (or-cases _ _ (and-left _ _ layout));
-      low = ltb-true _ _ (and-left _ _ place);
-      none-at-0 = λ e. eqb-true _ _ (or-otherwise _ _ (and-right _ _ place) (λ d. eqb-false _ _ (not-true _ d) e));
-    }
-
-slot-right : (n : Network) (l : List ℕ) (p i : ℕ) → modSlot n l p i ≡ pass → SlotRight n l p i
-unfolding modSlot lineLayout operandLayout sendLayout senderLayout
-slot-right n l p i h =
-    let layout = unless-true _ _ _ (first-right _ _ h) in
-    let from-slot = and-right _ _ layout in
-    let from-signal = and-right _ _ from-slot in
-    let from-operands = and-right _ _ from-signal in
-    let from-send = and-right _ _ from-operands in
-    record {
-      line = unless-true _ _ _ (first-left _ _ h);
-      processor = eqb-true _ _ (and-left _ _ layout);
-      slot = eqb-true _ _ (and-left _ _ from-slot);
-      signal = leb-true _ _ (and-left _ _ from-signal);
-      operand = λ j l. located _ _ _ _ (all-at _ 4 (and-left _ _ from-operands) j l);
-      send = located _ _ _ _ (and-left _ _ from-send);
-      sender = ⊎-elim (λ e. inl (ltb-true _ _ e)) (λ e. inr (eqb-true _ _ e)) (or-cases _ _ (and-right _ _ from-send));
-    }
-
 module _ (l : List ℕ) (p c : ℕ) (laid : Laid l p c) where
   -- by processor and slot
   pub slot-laid : (q i : ℕ) → q < p → i < c → SlotRight (laid .network) l q i
-  unfolding eachLine
+  unfolding moduleOf
   slot-laid q i low-q low-i =
-      let C = modSlots l in
       let s = laid .sized in
-      let i-low : i < C = omega (arith, s .slots) in
-      let q-low : q < modProcessors l = omega (arith, s .processors) in
-      let positive : 0 < C = omega arith in
-      let quotient : (q * C + i) / C ≡ q = omega (arith, mul-add-div-right positive q i, div-eq-of-lt i-low) in
-      let remainder : (q * C + i) % C ≡ i = mul-add-mod-self-right q C i ∙ mod-eq-of-lt i-low in
-      let low : q * C + i < modProcessors l * C = omega (arith, suc-mul q C, mul-le-mul-right C q-low) in
       slot-right (laid .network) l q i
-      (subst₂ (λ (x y : ℕ). modSlot (laid .network) l x y ≡ pass) quotient remainder (below-pass _ _ (laid .lines) (q * C + i) low))
+      (at-pass l (modSlot (laid .network) l) (laid .lines) q i
+      (record { processor = omega (arith, s .processors); slot = omega (arith, s .slots) }))
 
   pub index-small : (q i : ℕ) → q < p → i < c → 1 + q * modSlots l + i ≤ 4096
   index-small q i low-q low-i =
