@@ -3,3 +3,4 @@ pub mod Any
 pub mod Totals
 pub mod Pigeon
 pub mod Counts
+pub mod Listed

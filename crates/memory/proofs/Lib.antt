@@ -1,1 +1,4 @@
 pub mod Fetched
+pub mod Written
+pub mod Regions
+pub mod Halves

@@ -4,7 +4,7 @@ use mathlib.Core.Path.{_≡_}
 use mathlib.Core.Bool.{true}
 use mathlib.Core.Logic.{_⊎_}
 use Rattle.model.specs.Network.{Network, Signal, input, unitDelay, rankOrder, OnClosedChain}
-use Rattle.model.specs.Module.{Module, At, localPresent, noPart, noSender, sendRight, receptionRight, operandRight}
+use Rattle.model.specs.Module.{Module, At, Laid, sendRight, receptionRight, operandRight}
 
 -- what refusals 11 and 12 leave
 pub record Formed (n : Network) : Type 0 where
@@ -18,15 +18,6 @@ Acyclic n = (s : ℕ) → OnClosedChain n s → ⊥
 -- two states agree on the signals
 abbrev pub Same : Network → (ℕ → ℕ) → (ℕ → ℕ) → Type 0
 Same n a b = (s : ℕ) → Signal n s → a s ≡ b s
-
--- what refusal 21 leaves
-pub record Laid (n : Network) (m : Module) : Type 0 where
-  pub signals : (p i : ℕ) → At m p i → m .signal p i ≤ n .size
-  pub parts : (p i j : ℕ) → At m p i → j < 4 → (m .part p i j ≤ 3) ⊎ (m .part p i j ≡ noPart)
-  pub locations : (p i j : ℕ) → At m p i → j < 4 → m .location p i j < m .slots
-  pub send-parts : (p i : ℕ) → At m p i → (m .sendPart p i ≤ localPresent) ⊎ (m .sendPart p i ≡ noPart)
-  pub send-locations : (p i : ℕ) → At m p i → m .sendLocation p i < m .slots
-  pub senders : (p i : ℕ) → At m p i → (m .sender p i < m .processors) ⊎ (m .sender p i ≡ noSender)
 
 -- what refusal 22 leaves: the one place of a signal
 pub record Placed (m : Module) (s : ℕ) : Type 0 where

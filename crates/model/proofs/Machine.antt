@@ -11,10 +11,10 @@ use borrow.Author.Tests.{eqb-true, eqb-false, ne-eqb}
 use Rattle.logic.specs.Choice.{if_then_else_}
 use Rattle.model.specs.Network.{Network, Signal, input, unitDelay, rankOrder}
 use Rattle.model.specs.Value.{valueOf, evaluate, Step}
-use Rattle.model.specs.Module.{Module, At, localEarlier, localPresent, switchEarlier, switchPresent, noSender, received, sentPart, sentSignal, sendRight, Sent, present, earlier, Carries, local-earlier, local-present, local-not-yet, switch-earlier, switch-present, switch-not-yet}
+use Rattle.model.specs.Module.{Module, At, Laid, localEarlier, localPresent, switchEarlier, switchPresent, noSender, received, sentPart, sentSignal, sendRight, Sent, present, earlier, Carries, local-earlier, local-present, local-not-yet, switch-earlier, switch-present, switch-not-yet}
 use Rattle.model.specs.Machine.{Memory, nothing, fetch, operand, result, sent, stored, slot, slots, alternate, cycle, opening}
 use Rattle.model.specs.Session.{ticks}
-use Rattle.model.proofs.Conditions.{Formed, Same, Laid, Scheduled}
+use Rattle.model.proofs.Conditions.{Formed, Same, Scheduled}
 use Rattle.model.proofs.Operands.{wanted, IsGate, gate-no-input, Fits, unused, carried, differ, distinct, sent-received, operand-exact, send-full, send-stored, reception-sent}
 
 -- the state late cycles back, 0 or 1: now, or old before it

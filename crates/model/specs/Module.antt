@@ -2,6 +2,7 @@
 use Prim.Native.Nat.{ℕ, zero, suc, _+_, _*_, _≤_, _<_}
 use mathlib.Core.Path.{_≡_}
 use mathlib.Core.Bool.{Bool, not}
+use mathlib.Core.Logic.{_⊎_}
 use lib.Dec.{eqb, ltb, leb}
 use Rattle.logic.specs.Test.{_and_, _or_, one, total}
 use Rattle.logic.specs.Choice.{if_then_else_}
@@ -44,6 +45,16 @@ pub record Module : Type 0 where
 pub record At (m : Module) (p i : ℕ) : Type 0 where
   pub processor : p < m .processors
   pub slot : i < m .slots
+
+-- The lines of the module are in their ranges: what refusal 21 leaves (01, Files: "An operand has part 0 to 3 or 9, a send 0, 1 or 9.
+-- Locations are below C, processors below P.")
+pub record Laid (n : Network) (m : Module) : Type 0 where
+  pub signals : (p i : ℕ) → At m p i → m .signal p i ≤ n .size
+  pub parts : (p i j : ℕ) → At m p i → j < 4 → (m .part p i j ≤ 3) ⊎ (m .part p i j ≡ noPart)
+  pub locations : (p i j : ℕ) → At m p i → j < 4 → m .location p i j < m .slots
+  pub send-parts : (p i : ℕ) → At m p i → (m .sendPart p i ≤ localPresent) ⊎ (m .sendPart p i ≡ noPart)
+  pub send-locations : (p i : ℕ) → At m p i → m .sendLocation p i < m .slots
+  pub senders : (p i : ℕ) → At m p i → (m .sender p i < m .processors) ⊎ (m .sender p i ≡ noSender)
 
 -- the send into switch location k of processor p: its part, and the signal sent
 abbrev pub sentPart : Module → ℕ → ℕ → ℕ

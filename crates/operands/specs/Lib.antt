@@ -1,1 +1,2 @@
 pub mod Operand
+pub mod Instruction

@@ -12,6 +12,18 @@ pub enum Operand {
     None,
 }
 
+// A table line as it is executed: its signal (0: empty slot), what its operands and its send name, and the processor that it receives
+// from (99: none).
+pub struct Instruction {
+    pub signal: u16,
+    pub a1: Operand,
+    pub a2: Operand,
+    pub a3: Operand,
+    pub a4: Operand,
+    pub send: Operand,
+    pub sender: u8,
+}
+
 // The operand that a pair names. A part that has no location, as 9, names none.
 pub fn operand_of(part: u16, location: u8) -> Operand
     ensures { λ r. ⌜ r ≡ operandOf part location ⌝ }

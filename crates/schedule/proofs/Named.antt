@@ -15,7 +15,7 @@ use Rattle.operands.specs.declared.Operand.{Operand}
 use Rattle.operands.specs.declared.Operand.the-variants.{LocalEarlier, LocalPresent, SwitchEarlier, SwitchPresent, None}
 use Rattle.operands.proofs.Pairs.{part-of-pair, location-of-pair}
 use Rattle.schedule.specs.Answer.{Laid}
-use Rattle.schedule.specs.Instruction.{operandNamed, sendNamed}
+use Rattle.operands.specs.Instruction.{operandNamed, sendNamed}
 use Rattle.schedule.proofs.Judged.{and-false, and-yes}
 use Rattle.schedule.proofs.Slots.{slot-laid}
 

@@ -1,5 +1,4 @@
 pub mod Answer
 pub mod Layout
 pub mod Counting
-pub mod Instruction
 pub mod Sent

@@ -2,6 +2,7 @@
 
 use fields::Field;
 use fields::Line;
+use operands::Instruction;
 use operands::Operand;
 ghost use mathlib.Core.Path.{_≡_};
 ghost use mathlib.Core.Bool.{true, false};
@@ -19,7 +20,7 @@ ghost use Rattle.model.specs.Schedule.{modProcessors, modSlots, modField, modul
 ghost use Rattle.schedule.specs.Answer.{Answers, Sized, Laid, SignalsWithin};
 ghost use Rattle.schedule.specs.Counting.{countedOnce};
 ghost use Rattle.operands.specs.Operand.{operandOf, partOf, locationOf};
-ghost use Rattle.schedule.specs.Instruction.{operandNamed, sendNamed, instructionOf};
+ghost use Rattle.operands.specs.Instruction.{operandNamed, sendNamed, instructionOf};
 ghost use Rattle.schedule.specs.Sent.{sentRight, wantedSend};
 ghost use Rattle.schedule.specs.Layout.{pairLaid, pairAt, operandsAt, senderLaid, lineAt};
 
@@ -278,18 +279,6 @@ fn check_placements(table: &[u8], signals: u16, processors: u16, slots: u16) -> 
     let mut counts = [0u16; 4097];
     count_signals(table, processors, slots, &mut counts);
     find_unplaced(&counts, signals, processors, slots)
-}
-
-// A table line as it is executed: its signal (0: empty slot), what its operands and its send name, and the processor that it receives
-// from (99: none).
-pub struct Instruction {
-    pub signal: u16,
-    pub a1: Operand,
-    pub a2: Operand,
-    pub a3: Operand,
-    pub a4: Operand,
-    pub send: Operand,
-    pub sender: u8,
 }
 
 // The place of the line of a processor and a slot.

@@ -1,7 +1,7 @@
 use mathlib.Core.Path.{sym, _∙_, ap}
 use native.Mathlib.Omega.{arith}
 use Rattle.logic.specs.Test.{_and_}
-use Rattle.schedule.specs.declared.Instruction.{Instruction}
+use Rattle.operands.specs.declared.Instruction.{Instruction}
 use Rattle.schedule.proofs.Judged.{chain-stops, chain-goes-on}
 use Rattle.schedule.proofs.Lines.{all-4}
 use borrow.Author.Needs.{needs}

@@ -1,6 +1,6 @@
 use Prim.Native.Nat.{_<_}
 use mathlib.Core.Path.{ap}
-use Rattle.schedule.specs.declared.Instruction.{Instruction}
+use Rattle.operands.specs.declared.Instruction.{Instruction}
 use Rattle.schedule.proofs.Named.{send-has, sender-low, reception-none, reception-right, reception-wrong}
 use Rattle.schedule.proofs.Told.{not-none}
 use mathlib.Core.Path.{_∙_}

@@ -1,6 +1,6 @@
 use mathlib.Core.Path.{ap}
 use Rattle.operands.specs.Operand.{locationOf}
-use Rattle.schedule.specs.declared.Instruction.{Instruction}
+use Rattle.operands.specs.declared.Instruction.{Instruction}
 use Rattle.schedule.proofs.Named.{send-has, send-local, send-low, send-none, send-earlier, send-late, send-present}
 use mathlib.Core.Path.{sym}
 use native.Mathlib.Omega.{arith}

@@ -1,9 +1,9 @@
 -- A table line as an instruction (01, One cycle of the machine: "A location named by a table line has a part and a number").
 use Prim.Native.Nat.{ℕ}
 use Rattle.model.specs.Module.{Module}
 use Rattle.operands.specs.Operand.{operandOf}
 use Rattle.operands.specs.declared.Operand.{Operand}
-use Rattle.schedule.specs.declared.Instruction.{Instruction}
+use Rattle.operands.specs.declared.Instruction.{Instruction}
 
 -- operand j of slot i of processor p, and what is sent there
 abbrev pub operandNamed : Module → ℕ → ℕ → ℕ → Operand

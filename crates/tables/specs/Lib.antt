@@ -1,0 +1,3 @@
+pub mod Panel
+pub mod Program
+pub mod Tables
