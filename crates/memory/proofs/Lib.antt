@@ -2,3 +2,4 @@ pub mod Fetched
 pub mod Written
 pub mod Regions
 pub mod Halves
+pub mod Near

@@ -140,3 +140,60 @@ written-join first second both w u old agree inside outside =
 pub written-kept : (test : ℕ → ℕ → Bool) (w : Memory) (old : List ℕ) {p part k : ℕ} → Place p part k → test p k ≡ false
     → getD (written test w old) (place p part k) 0 ≡ getD old (place p part k) 0
 written-kept test w old {p} {part} {k} a t = written-at test w old a ∙ written-else test w old p part k t
+
+-- memories that agree where they are written
+pub written-same : (test : ℕ → ℕ → Bool) (w u : Memory) (old : List ℕ) → Agree test w u → written test w old ≡ written test u old
+written-same test w u old agree =
+    is-written test u old (written test w old) (written-length test w old) (λ p part k a. written-at test w old a ∙ go p part k a (test p k) refl)
+  where
+    here : (p part k : ℕ) → Place p part k → test p k ≡ true → (b : Bool) → ltb part blank ≡ b → writtenAt test w old p part k ≡ writtenAt test u old p part k
+    here p part k a t true e =
+        let l = ltb-true part blank e in
+        written-here test w old p part k t l ∙ agree p part k a l t ∙ sym (written-here test u old p part k t l)
+    here p part k a t false e =
+        let l = ltb-false part blank e in
+        let i = a .part-low in
+        let q : part ≡ blank = omega arith in
+        subst (λ (x : ℕ). writtenAt test w old p x k ≡ writtenAt test u old p x k) (sym q)
+        (written-blank test w old p k ∙ sym (written-blank test u old p k))
+
+    go : (p part k : ℕ) → Place p part k → (b : Bool) → test p k ≡ b → writtenAt test w old p part k ≡ writtenAt test u old p part k
+    go p part k a true t = here p part k a t (ltb part blank) refl
+    go p part k a false t = written-else test w old p part k t ∙ sym (written-else test u old p part k t)
+
+-- the fifth parts stay blank
+pub written-bytes : (test : ℕ → ℕ → Bool) (w : Memory) (old : List ℕ) → MemoryBytes old → MemoryBytes (written test w old)
+written-bytes test w old h =
+    record {
+      size = written-length test w old;
+      blanks = λ p l.
+          written-at test w old (record { processor-low = l; part-low = omega arith; location-low = omega arith })
+          ∙ written-blank test w old p 0
+          ∙ h .blanks p l;
+    }
+
+-- what is written last stays
+pub written-over : (test : ℕ → ℕ → Bool) (w u : Memory) (old : List ℕ) → written test u (written test w old) ≡ written test u old
+unfolding writtenAt _and_
+written-over test w u old =
+    is-written test u old (written test u (written test w old)) (written-length test u (written test w old))
+    (λ p part k a. written-at test u (written test w old) a ∙ go p part k a (test p k) refl (ltb part blank) refl)
+  where
+    go : (p part k : ℕ) → Place p part k → (t : Bool) → test p k ≡ t → (b : Bool) → ltb part blank ≡ b
+        → writtenAt test u (written test w old) p part k ≡ writtenAt test u old p part k
+    go p part k a true t true b = rw (t, b)
+    go p part k a true t false b = rw (t, b) (written-at test w old a ∙ rw (t, b))
+    go p part k a false t b e = rw t (written-kept test w old a t)
+
+-- bytes hold their own memory
+pub written-self : (test : ℕ → ℕ → Bool) (l : List ℕ) → length l ≡ memoryLength → l ≡ written test (memoryOf l) l
+unfolding writtenAt _and_
+written-self test l size = is-written test (memoryOf l) l l size (λ p part k a. go p part k (test p k) refl (ltb part blank) refl)
+  where
+    go : (p part k : ℕ) → (t : Bool) → test p k ≡ t → (b : Bool) → ltb part blank ≡ b → getD l (place p part k) 0 ≡ writtenAt test (memoryOf l) l p part k
+    go p part k true t true b = rw (t, b) (sym (fetch-bytes l p part k (ltb-true part blank b)))
+    go p part k true t false b = rw (t, b)
+    go p part k false t b e = rw t
+
+pub bytes-written : (test : ℕ → ℕ → Bool) (w : Memory) (old l : List ℕ) → MemoryBytes old → l ≡ written test w old → MemoryBytes l
+bytes-written test w old l h e = subst MemoryBytes (sym e) (written-bytes test w old h)

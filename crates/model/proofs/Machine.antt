@@ -332,12 +332,26 @@ holds-near near holds =
       switch = λ p k late a s. near .earlierSwitch p k a ∙ holds .switch p k late a s;
     }
 
+pub near-alternated : {m : Module} {w u : Memory} → Near m w u → Near m (alternate w) (alternate u)
+unfolding alternate
+near-alternated near =
+    record {
+      earlierLocal = near .presentLocal;
+      presentLocal = near .earlierLocal;
+      earlierSwitch = near .presentSwitch;
+      presentSwitch = near .earlierSwitch;
+    }
+
 -- a cycle of memories that agree, fed rows that agree on the inputs
 module _ {n : Network} {m : Module} (laid : Laid n m) where
   pub cycle-rows : (row other : ℕ → ℕ) → ((s : ℕ) → Signal n s → n .kind s ≡ input → row s ≡ other s) → {w u : Memory} → Near m w u
       → Near m (cycle n m row w) (cycle n m other u)
   cycle-rows row other rows =
       cycle-alike (λ x y. x ≡ y) laid refl (λ s a b c d a' b' c' d' e f g h. cc) row other rows
+
+  pub slot-near : (row : ℕ → ℕ) (i : ℕ) → i < m .slots → {w u : Memory} → Near m w u → Near m (slot n m row i w) (slot n m row i u)
+  slot-near row i low near =
+      slot-alike (λ x y. x ≡ y) laid refl (λ s a b c d a' b' c' d' e f g h. cc) row row (λ s g k. refl) near i low
 
   pub cycle-near : (row : ℕ → ℕ) {w u : Memory} → Near m w u → Near m (cycle n m row w) (cycle n m row u)
   cycle-near row = cycle-rows row row (λ s g k. refl)

@@ -17,7 +17,7 @@ pub struct Slot(pub u16);
 pub struct Cycle(pub u16);
 
 // A byte as a number of 16 bits.
-fn widened(x: u8) -> u16
+pub fn widened(x: u8) -> u16
     ensures { λ r. ⌜ (r ≡ x) × (r < 256) ⌝ }
 {
     x as u16
