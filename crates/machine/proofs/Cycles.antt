@@ -84,18 +84,17 @@ module _ (n : Network) (m : Module) (laid : Laid n m) (few : m .processors ≤ 1
       ∙ ap (λ (w : Memory). held (m .processors) (m .slots) w old) (sym (ticks-more (cycle n m row) j (memoryOf old)))
       ∙ ap (λ (x : ℕ). held (m .processors) (m .slots) (after x) old) (sym q)
 
-  -- what is read at a place of the module
-  pub place-shows : (l : List ℕ) (j p k : ℕ) → At m p k → l ≡ held (m .processors) (m .slots) (after j) old
-      → getD l (place p 0 k) 0 ≡ after j .earlierLocal p k
-  unfolding memoryOf
-  place-shows l j p k a e =
-      ap (λ (x : List ℕ). getD x (place p 0 k) 0) e ∙ held-near m few short (after j) old .earlierLocal p k a
-
-  -- the test of the watched value there
-  pub stop-told : (mask : ℕ) (b : Bool) (l : List ℕ) (j p k at : ℕ) → At m p k → l ≡ held (m .processors) (m .slots) (after j) old → at ≡ place p 0 k
-      → b ≡ watched mask (getD l at 0) → watched mask (after j .earlierLocal p k) ≡ b
-  stop-told mask b l j p k at a e q t =
-      ap (watched mask) (sym (place-shows l j p k a e)) ∙ ap (λ (x : ℕ). watched mask (getD l x 0)) (sym q) ∙ sym t
+  -- the test of a value that is read at the place of signal s, which is x
+  pub stop-told : (mask : ℕ) (processor location : ℕ → ℕ) (s : ℕ) → At m (processor s) (location s) → (j : ℕ) (b : Bool) (l : List ℕ) (x v : ℕ)
+      → x ≡ s → l ≡ held (m .processors) (m .slots) (after j) old → v ≡ memoryOf l .earlierLocal (processor x) (location x)
+      → b ≡ watched mask v → watched mask (after j .earlierLocal (processor s) (location s)) ≡ b
+  stop-told mask processor location s a j b l x v is e q t =
+      ap (watched mask)
+      (sym
+      (q ∙ ap (λ (y : ℕ). memoryOf l .earlierLocal (processor y) (location y)) is
+      ∙ ap (λ (y : List ℕ). memoryOf y .earlierLocal (processor s) (location s)) e
+      ∙ held-near m few short (after j) old .earlierLocal (processor s) (location s) a))
+      ∙ sym t
 
   module _ (stops : Memory → Bool) (k : ℕ) where
     abbrev ran : Run Memory

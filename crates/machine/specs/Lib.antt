@@ -1,2 +1,1 @@
-pub mod Storing
 pub mod Running

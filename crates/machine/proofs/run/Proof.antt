@@ -1,13 +1,11 @@
 -- The invariant: the memory holds what so many cycles left, and none of them showed a watched value.
-use Prim.Native.Nat.{_≤_, _-_}
-use mathlib.Core.Path.{_≡_, _∙_, ap, sym}
-use mathlib.Core.Bool.{true, false}
-use lib.ListN.{length}
-use Rattle.model.specs.Module.{Module, At}
+use Prim.Native.Nat.{ℕ, _≤_, _<_, _-_}
+use mathlib.Core.Path.{_≡_, _∙_, ap, sym, subst}
+use Rattle.model.specs.Module.{At}
 use Rattle.model.specs.Machine.{Memory}
 use Rattle.model.specs.Session.{ticks, watched}
 use Rattle.memory.specs.Memory.{memoryOf, within, held, MemoryBytes}
-use Rattle.memory.proofs.Written.{written-length, bytes-written}
+use Rattle.memory.proofs.Written.{bytes-written}
 use Rattle.tables.specs.Panel.{processorsIn, slotsIn, watchedIn, maskIn, handIn, processorIn, slotIn}
 use Rattle.tables.specs.Tables.{networkIn, moduleIn}
 use Rattle.machine.specs.Running.{cycleIn, watchedValue, runIn}
@@ -18,13 +16,13 @@ use Rattle.machine.proofs.run.Statement.{statement}
 use Rattle.machine.proofs.run.Tie as tie
 
 abbrev Inv-loop : tie.InvT-loop
-Inv-loop panel program memory₀ processors slots place mask k done₀ memory done =
+Inv-loop panel program memory₀ cycles processors slots signal mask k done₀ memory done =
     (done ≤ k) × MemoryBytes memory
     × (memory ≡ held (processorsIn panel) (slotsIn panel) (ticks (cycleIn panel program) done (memoryOf memory₀)) memory₀)
     × QuietTo (cycleIn panel program) (λ w. watched (maskIn panel) (watchedValue panel w)) (memoryOf memory₀) done
 
 abbrev μ-loop : tie.MeasureT-loop
-μ-loop panel program memory₀ processors slots place mask k done₀ memory done = k - done
+μ-loop panel program memory₀ cycles processors slots signal mask k done₀ memory done = k - done
 
 shared-slice-read-widened : tie.Need-shared-slice-read-widened Inv-loop μ-loop
 shared-slice-read-widened c = search needs
@@ -38,8 +36,8 @@ cast-processors c = search needs
 word-at-requires : tie.Need-word-at-requires Inv-loop μ-loop
 word-at-requires c κs = search needs
 
-watched-place-requires : tie.Need-watched-place-requires Inv-loop μ-loop
-watched-place-requires c κs = search needs
+word-at-requires-2 : tie.Need-word-at-requires-2 Inv-loop μ-loop
+word-at-requires-2 c κs = search needs
 
 shared-slice-read-mask : tie.Need-shared-slice-read-mask Inv-loop μ-loop
 shared-slice-read-mask c = search needs
@@ -57,8 +55,18 @@ run-cycle-requires c κs = search needs
 add-done : tie.Need-add-done Inv-loop μ-loop
 add-done c = search needs
 
-slice-read-shows : tie.Need-slice-read-shows Inv-loop μ-loop
-slice-read-shows c = search needs
+value-of-requires : tie.Need-value-of-requires Inv-loop μ-loop
+unfolding moduleIn
+value-of-requires c κs =
+    let s = c .before .before .before .before .before .before .before .before .before .before .before .before .before .before .before in
+    let t = s .pre .0 in
+    let panel = s .args .panel .now in
+    let watch = s .pre .1 .0 in
+    let e = c .before .before .before .before .before .before .before .before .word-at2 .ensures in
+    let low : processorIn panel (watchedIn panel) < 16 = omega (arith, watch .processor-low, t .processors-high) in (
+      (t .panel-size, omega (arith, e, watch .signal-high), subst (λ (x : ℕ). processorIn panel x < 16) (sym e) low),
+      bytes-written (within (processorsIn panel) (slotsIn panel)) _ (c .before .before .before .before .before .before .loop .memory) _ (c .before .before .before .before .before .before .loop .inv .1) (c .before .before .before .run-cycle .ensures),
+    )
 
 shows-requires : tie.Need-shows-requires Inv-loop μ-loop
 shows-requires c κs = search needs
@@ -69,18 +77,18 @@ same-length c = search needs
 returns : tie.Need-returns Inv-loop μ-loop
 unfolding moduleIn runIn
 returns c =
-    let s = c .before .before .before .before .before .before .before .before .before .before .before .before .before .before .before .before .before in
+    let s = c .before .before .before .before .before .before .before .before .before .before .before .before .before .before .before .before .before .before in
     let t = s .pre .0 in
-    let i = c .before .before .before .before .before .before .before .before .loop .inv in
+    let i = c .before .before .before .before .before .before .before .before .before .loop .inv in
     let panel = s .args .panel .now in
     let program = s .args .program .now in
     let old = s .args .memory .now in
     let m = moduleIn panel program in
     let n = networkIn panel program in
     let at : At m (processorIn panel (watchedIn panel)) (slotIn panel (watchedIn panel)) = record { processor = s .pre .1 .0 .processor-low; slot = s .pre .1 .0 .slot-low } in
-    let next = cycles-more n m (t .laid) (t .processors-high) (t .slots-high) (handIn panel) old (c .before .before .before .before .before .before .before .before .loop .memory) _ (c .before .before .before .before .before .before .before .before .loop .done) (i .2) (c .before .before .before .before .before .run-cycle .ensures) in
-    let told = stop-told n m (t .laid) (t .processors-high) (t .slots-high) (handIn panel) old (maskIn panel) _ _ _ _ _ _ at next (c .before .before .before .before .before .before .before .before .before .before .watched-place .ensures .0) (c .before .shows .ensures) in
-    ran-stopped n m (t .laid) (t .processors-high) (t .slots-high) (handIn panel) old (λ (w : Memory). watched (maskIn panel) (watchedValue panel w)) (s .args .cycles .0) (c .before .before .before .before .before .before .before .before .loop .done) _ (omega arith) (i .3) next (told ∙ c .if1 .taken)
+    let next = cycles-more n m (t .laid) (t .processors-high) (t .slots-high) (handIn panel) old (c .before .before .before .before .before .before .before .before .before .loop .memory) _ (c .before .before .before .before .before .before .before .before .before .loop .done) (i .2) (c .before .before .before .before .before .before .run-cycle .ensures) in
+    let told = stop-told n m (t .laid) (t .processors-high) (t .slots-high) (handIn panel) old (maskIn panel) (processorIn panel) (slotIn panel) (watchedIn panel) at _ _ _ _ _ (c .before .before .before .before .before .before .before .before .before .before .before .word-at2 .ensures) next (c .before .before .value-of .ensures) (c .before .shows .ensures) in
+    ran-stopped n m (t .laid) (t .processors-high) (t .slots-high) (handIn panel) old (λ (w : Memory). watched (maskIn panel) (watchedValue panel w)) (s .args .cycles .0) (c .before .before .before .before .before .before .before .before .before .loop .done) _ (omega arith) (i .3) next (told ∙ c .if1 .taken)
 
 loop-less : tie.Need-loop-less Inv-loop μ-loop
 loop-less c = search needs
@@ -88,18 +96,18 @@ loop-less c = search needs
 loop-again : tie.Need-loop-again Inv-loop μ-loop
 unfolding moduleIn
 loop-again c =
-    let s = c .before .before .before .before .before .before .before .before .before .before .before .before .before .before .before .before .before in
+    let s = c .before .before .before .before .before .before .before .before .before .before .before .before .before .before .before .before .before .before in
     let t = s .pre .0 in
-    let i = c .before .before .before .before .before .before .before .before .loop .inv in
+    let i = c .before .before .before .before .before .before .before .before .before .loop .inv in
     let panel = s .args .panel .now in
     let program = s .args .program .now in
     let old = s .args .memory .now in
     let m = moduleIn panel program in
     let n = networkIn panel program in
     let at : At m (processorIn panel (watchedIn panel)) (slotIn panel (watchedIn panel)) = record { processor = s .pre .1 .0 .processor-low; slot = s .pre .1 .0 .slot-low } in
-    let next = cycles-more n m (t .laid) (t .processors-high) (t .slots-high) (handIn panel) old (c .before .before .before .before .before .before .before .before .loop .memory) _ (c .before .before .before .before .before .before .before .before .loop .done) (i .2) (c .before .before .before .before .before .run-cycle .ensures) in
-    let told = stop-told n m (t .laid) (t .processors-high) (t .slots-high) (handIn panel) old (maskIn panel) _ _ _ _ _ _ at next (c .before .before .before .before .before .before .before .before .before .before .watched-place .ensures .0) (c .before .shows .ensures) in
-    (omega arith, bytes-written (within (m .processors) (m .slots)) _ old _ (s .pre .1 .1) next, next, quiet-more n m (t .laid) (t .processors-high) (t .slots-high) (handIn panel) old (λ (w : Memory). watched (maskIn panel) (watchedValue panel w)) (s .args .cycles .0) (c .before .before .before .before .before .before .before .before .loop .done) (i .3) (told ∙ c .if1 .left))
+    let next = cycles-more n m (t .laid) (t .processors-high) (t .slots-high) (handIn panel) old (c .before .before .before .before .before .before .before .before .before .loop .memory) _ (c .before .before .before .before .before .before .before .before .before .loop .done) (i .2) (c .before .before .before .before .before .before .run-cycle .ensures) in
+    let told = stop-told n m (t .laid) (t .processors-high) (t .slots-high) (handIn panel) old (maskIn panel) (processorIn panel) (slotIn panel) (watchedIn panel) at _ _ _ _ _ (c .before .before .before .before .before .before .before .before .before .before .before .word-at2 .ensures) next (c .before .before .value-of .ensures) (c .before .shows .ensures) in
+    (omega arith, bytes-written (within (m .processors) (m .slots)) _ old _ (s .pre .1 .1) next, next, quiet-more n m (t .laid) (t .processors-high) (t .slots-high) (handIn panel) old (λ (w : Memory). watched (maskIn panel) (watchedValue panel w)) (s .args .cycles .0) (c .before .before .before .before .before .before .before .before .before .loop .done) (i .3) (told ∙ c .if1 .left))
 
 same-length-2 : tie.Need-same-length-2 Inv-loop μ-loop
 same-length-2 c = search needs
@@ -113,8 +121,7 @@ returns-2 c =
     let panel = s .args .panel .now in
     let program = s .args .program .now in
     let e : c .before .loop .done ≡ s .args .cycles .0 = omega arith in
-    let whole = ran-whole (networkIn panel program) (moduleIn panel program) (t .laid) (t .processors-high) (t .slots-high) (handIn panel) (s .args .memory .now) (λ (w : Memory). watched (maskIn panel) (watchedValue panel w)) (s .args .cycles .0) (c .before .loop .memory) (λ j a b. i .3 j a (omega arith)) (rw e at (i .2)) in
-    (e ∙ whole .0, whole .1, whole .2)
+    ran-whole (networkIn panel program) (moduleIn panel program) (t .laid) (t .processors-high) (t .slots-high) (handIn panel) (s .args .memory .now) (λ (w : Memory). watched (maskIn panel) (watchedValue panel w)) (s .args .cycles .0) (c .before .loop .memory) (λ j a b. i .3 j a (omega arith)) (rw e at (i .2))
 
 pub run-spec : {M : Type 1} → statement M
 run-spec =
@@ -126,12 +133,12 @@ run-spec =
     widened-requires
     cast-processors
     word-at-requires
-    watched-place-requires
+    word-at-requires-2
     shared-slice-read-mask
     loop-holds
     run-cycle-requires
     add-done
-    slice-read-shows
+    value-of-requires
     shows-requires
     same-length
     returns

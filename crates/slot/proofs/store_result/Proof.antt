@@ -1,0 +1,56 @@
+use Prim.Native.Nat.{_+_, _*_}
+use Rattle.model.specs.Module.{localPresent}
+use Rattle.memory.specs.Memory.{place}
+use mathlib.Core.Path.{sym, _∙_, ap}
+use Rattle.operands.specs.declared.Instruction.{Instruction}
+use Rattle.slot.proofs.Stores.{store-some, store-none}
+use native.Mathlib.Omega.{arith}
+use borrow.Author.Needs.{needs}
+use Rattle.slot.proofs.store_result.Statement.{statement}
+use Rattle.slot.proofs.store_result.Tie as tie
+
+instruction-in-requires : tie.Need-instruction-in-requires
+instruction-in-requires c κs = search needs
+
+mul-memory : tie.Need-mul-memory
+mul-memory c = search needs
+
+add-memory : tie.Need-add-memory
+add-memory c = search needs
+
+cast-memory : tie.Need-cast-memory
+cast-memory c = search needs
+
+add-memory-2 : tie.Need-add-memory-2
+add-memory-2 c = search needs
+
+slice-write-memory : tie.Need-slice-write-memory
+slice-write-memory c = search needs
+
+same-length : tie.Need-same-length
+same-length c = search needs
+
+returns : tie.Need-returns
+returns c =
+    let is = ap (λ (r : Instruction). r .signal) (c .before .before .instruction-in .ensures) in
+    let s = c .before .before .before .before .before in
+    store-some _ 0 (s .args .memory .now) (1280 * s .args .processor + 256 + s .args .slot .0) (place (s .args .processor) localPresent (s .args .slot .0)) (s .args .value) (λ e. c .if1 .taken (is ∙ e)) (omega arith)
+
+returns-2 : tie.Need-returns-2
+returns-2 c =
+    let is = ap (λ (r : Instruction). r .signal) (c .before .before .instruction-in .ensures) in
+    store-none _ 0 _ _ _ (sym is ∙ c .if1 .left)
+
+pub store-result-spec : {M : Type 1} → statement M
+store-result-spec =
+    tie.close
+    (tie.spec
+    instruction-in-requires
+    mul-memory
+    add-memory
+    cast-memory
+    add-memory-2
+    slice-write-memory
+    same-length
+    returns
+    returns-2)
