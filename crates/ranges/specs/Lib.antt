@@ -1,0 +1,3 @@
+pub mod Ranges
+pub mod Largest
+pub mod Order
