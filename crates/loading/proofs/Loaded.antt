@@ -19,23 +19,13 @@ use Rattle.model.proofs.Accepted.{net-size, mod-processors, mod-slots, mod-sche
 use Rattle.tables.specs.Panel.{panelLength, signalsIn, slotsIn, kindIn, codesIn, handIn, processorIn, slotIn}
 use Rattle.tables.specs.Program.{programLength, lineIn, signalAt, partAt, locationAt}
 use Rattle.tables.specs.Tables.{moduleIn, networkIn, Tables}
+use Rattle.tables.specs.Holding.{SameLines, Holding}
 use Rattle.loading.specs.Loaded.{timeZero, placeOf, headBytes, signalBytes, panelByte, panelWith, panelOf, lineBytes, programByte, programOf}
 use Rattle.loading.specs.Scheduling.{Schedules}
 use Rattle.loading.proofs.Program.{byte-within}
 use Rattle.loading.proofs.Panel.{panel-signal}
 use Rattle.loading.proofs.Places.{place-there, place-has}
 use Rattle.loading.proofs.Opening.{schedules, zeroth-is}
-
--- a has the sizes of b, and the same lines at its processors and slots
-pub record SameLines (a b : Module) : Type 0 where
-  pub processors : a .processors ≡ b .processors
-  pub slots : a .slots ≡ b .slots
-  pub signals : (p i : ℕ) → At b p i → a .signal p i ≡ b .signal p i
-  pub parts : (p i j : ℕ) → At b p i → j < 4 → a .part p i j ≡ b .part p i j
-  pub locations : (p i j : ℕ) → At b p i → j < 4 → a .location p i j ≡ b .location p i j
-  pub send-parts : (p i : ℕ) → At b p i → a .sendPart p i ≡ b .sendPart p i
-  pub send-locations : (p i : ℕ) → At b p i → a .sendLocation p i ≡ b .sendLocation p i
-  pub senders : (p i : ℕ) → At b p i → a .sender p i ≡ b .sender p i
 
 -- lines in range stay so
 same-laid : {a b : Module} {x y : Network} → SameLines a b → x .size ≡ y .size → Laid y b → Laid x a
@@ -209,4 +199,14 @@ module _ (net table : List ℕ) (n : netCheck 4096 net ≡ pass) (m : modCheck (
           processors-high = omega (arith, head-there 2 (omega arith), mod-processors (network net) table m);
           slots-high = omega (arith, slots-there, mod-slots (network net) table m);
           laid = same-laid loaded-module (loaded-network .size) (mod-scheduled (network net) table m .laid);
+        }
+
+    -- the tables hold the files' network and module
+    pub loaded-holding : Holding (network net) (moduleOf table) (panelOf net table stim) (programOf table)
+    loaded-holding =
+        let same = loaded-network in
+        record {
+          lines = loaded-module;
+          signals = record { size = same .size; kinds = same .kinds; gates = same .gates };
+          places = λ s g. record { at = same .placed s g; is = same .places s g };
         }

@@ -1,3 +1,4 @@
 pub mod Panel
 pub mod Program
 pub mod Tables
+pub mod Holding

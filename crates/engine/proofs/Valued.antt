@@ -1,0 +1,132 @@
+-- The bytes that the machine leaves hold VAL at the place of every signal, for accepted files: what `load` writes, and what every cycle
+-- and every run makes of it, by the contracts of `loading` and `machine`. The idea: the bytes' memory keeps step with the rows, and the
+-- tables run as the files' own machine.
+use Prim.Native.Nat.{ℕ, zero, suc, _<_, _≤_}
+use mathlib.Core.Path.{_≡_, refl, sym, subst, _∙_, ap}
+use mathlib.Core.Bool.{Bool}
+use mathlib.Core.List.{List, [], _∷_}
+use native.Mathlib.Omega.{arith}
+use lib.ListN.{getD}
+use Rattle.logic.specs.Listed.{listed}
+use Rattle.model.specs.Files.{Files}
+use Rattle.model.specs.Network.{Network, Signal}
+use Rattle.model.specs.Value.{start, VAL}
+use Rattle.model.specs.Module.{Module, At}
+use Rattle.model.specs.Machine.{Memory, cycle, opening}
+use Rattle.model.specs.Schedule.{modProcessors, modSlots, moduleOf}
+use Rattle.model.specs.Session.{runs, ticks, watched}
+use Rattle.model.specs.Acceptance.{panelLimit, networkOf, scheduleOf, givenOf, Accepted}
+use Rattle.model.specs.Demands.{Places}
+use Rattle.model.proofs.Conditions.{Formed, Acyclic, Scheduled}
+use Rattle.model.proofs.Machine.{Near, near-refl}
+use Rattle.model.proofs.Keeping.{Kept, kept-cycle, kept-places, kept-near, kept-opening}
+use Rattle.model.proofs.Runs.{runs-exact}
+use Rattle.model.proofs.Accepted.{mod-accepted, mod-processors, mod-slots}
+use Rattle.model.proofs.Demands.{accepted-formed, accepted-acyclic, accepted-scheduled}
+use Rattle.memory.specs.Memory.{memoryLength, place, memoryOf, held}
+use Rattle.memory.proofs.Near.{held-near}
+use Rattle.tables.specs.Panel.{processorsIn, slotsIn, maskIn, handIn, processorIn, slotIn}
+use Rattle.tables.specs.Tables.{networkIn, moduleIn}
+use Rattle.tables.specs.Holding.{Holding}
+use Rattle.machine.specs.Running.{cycleIn, watchedValue, runIn}
+use Rattle.loading.specs.Loaded.{openingBytes}
+use Rattle.engine.proofs.Same.{near-trans, cycle-same}
+
+module _ (files : Files) (accepted : Accepted panelLimit files) where
+  abbrev n : Network
+  n = networkOf files
+
+  abbrev m : Module
+  m = scheduleOf files
+
+  abbrev formed : Formed n
+  formed = accepted-formed panelLimit files accepted
+
+  abbrev acyclic : Acyclic n
+  acyclic = accepted-acyclic panelLimit files accepted
+
+  abbrev ok : Scheduled n m
+  ok = accepted-scheduled panelLimit files accepted
+
+  -- the bytes hold VAL of the rows, and of the cycle before
+  abbrev pub Holds : List ℕ → List (ℕ → ℕ) → Type 0
+  Holds bytes rows = Kept formed acyclic ok (givenOf files) (memoryOf bytes) rows
+
+  few : m .processors ≤ 16
+  unfolding moduleOf
+  few = mod-processors n (files .MOD) (mod-accepted panelLimit files accepted) .1
+
+  short : m .slots ≤ 256
+  unfolding moduleOf
+  short = mod-slots n (files .MOD) (mod-accepted panelLimit files accepted) .1
+
+  module _ (panel program : List ℕ) (holding : Holding n m panel program) where
+    -- a memory written into the module's locations of the bytes is the bytes' memory there
+    written-near : (w : Memory) (old : List ℕ) → Near m (memoryOf (held (processorsIn panel) (slotsIn panel) w old)) w
+    unfolding moduleIn
+    written-near w old =
+        subst (λ (c : ℕ). Near m (memoryOf (held (processorsIn panel) c w old)) w) (sym (holding .lines .slots))
+        (subst (λ (p : ℕ). Near m (memoryOf (held p (m .slots) w old)) w) (sym (holding .lines .processors)) (held-near m few short w old))
+
+    -- the tables' machine keeps step
+    cycle-kept : (w : Memory) (rows : List (ℕ → ℕ)) → Kept formed acyclic ok (givenOf files) w rows
+        → Kept formed acyclic ok (givenOf files) (cycleIn panel program w) (handIn panel ∷ rows)
+    cycle-kept w rows k =
+        kept-near formed acyclic ok (givenOf files) (cycleIn panel program w) (cycle n m (handIn panel) w) (handIn panel ∷ rows)
+        (cycle-same (networkIn panel program) (holding .lines) (ok .laid) (holding .signals .kinds) (holding .signals .gates) (handIn panel) near-self)
+        (kept-cycle formed acyclic ok (givenOf files) (handIn panel) (handIn panel) (λ s g i. refl) w rows k)
+      where
+        near-self : Near m w w
+        near-self = near-refl
+
+    ticks-kept : (j : ℕ) (w : Memory) (rows : List (ℕ → ℕ)) → Kept formed acyclic ok (givenOf files) w rows
+        → Kept formed acyclic ok (givenOf files) (ticks (cycleIn panel program) j w) (ticks (λ r. handIn panel ∷ r) j rows)
+    unfolding ticks
+    ticks-kept zero w rows k = k
+    ticks-kept (suc j) w rows k = ticks-kept j (cycleIn panel program w) (handIn panel ∷ rows) (cycle-kept w rows k)
+
+    written-kept : (w : Memory) (old : List ℕ) (rows : List (ℕ → ℕ)) → Kept formed acyclic ok (givenOf files) w rows
+        → Holds (held (processorsIn panel) (slotsIn panel) w old) rows
+    written-kept w old rows k =
+        kept-near formed acyclic ok (givenOf files) (memoryOf (held (processorsIn panel) (slotsIn panel) w old)) w rows (written-near w old) k
+
+    -- one cycle, as its contract leaves the bytes
+    pub cycle-holds : (bytes left : List ℕ) (rows : List (ℕ → ℕ)) → Holds bytes rows
+        → left ≡ held (processorsIn panel) (slotsIn panel) (cycleIn panel program (memoryOf bytes)) bytes → Holds left (handIn panel ∷ rows)
+    cycle-holds bytes left rows k e =
+        subst (λ (l : List ℕ). Holds l (handIn panel ∷ rows)) (sym e)
+        (written-kept (cycleIn panel program (memoryOf bytes)) bytes (handIn panel ∷ rows) (cycle-kept (memoryOf bytes) rows k))
+
+    -- inside a run: the memory after its j-th cycle
+    pub inside-holds : (bytes : List ℕ) (rows : List (ℕ → ℕ)) (j : ℕ) → Holds bytes rows
+        → Places n m (ticks (cycleIn panel program) j (memoryOf bytes)) (VAL n (givenOf files) (ticks (λ r. handIn panel ∷ r) j rows))
+    inside-holds bytes rows j k = kept-places formed acyclic ok (givenOf files) _ _ (ticks-kept j (memoryOf bytes) rows k)
+
+    -- a run, as its contract leaves the bytes
+    pub run-holds : (bytes left : List ℕ) (rows : List (ℕ → ℕ)) (k : ℕ) → Holds bytes rows
+        → left ≡ held (processorsIn panel) (slotsIn panel) (runIn panel program k (memoryOf bytes) .state) bytes
+        → Holds left (ticks (λ r. handIn panel ∷ r) (runIn panel program k (memoryOf bytes) .count) rows)
+    unfolding runIn
+    run-holds bytes left rows k holds e =
+        let ran = runs (cycleIn panel program) (λ w. watched (maskIn panel) (watchedValue panel w)) k (memoryOf bytes) in
+        let exact = runs-exact (cycleIn panel program) (λ w. watched (maskIn panel) (watchedValue panel w)) k (memoryOf bytes) in
+        subst (λ (l : List ℕ). Holds l (ticks (λ r. handIn panel ∷ r) (ran .count) rows)) (sym e)
+        (written-kept (ran .state) bytes (ticks (λ r. handIn panel ∷ r) (ran .count) rows)
+        (subst (λ (w : Memory). Kept formed acyclic ok (givenOf files) w (ticks (λ r. handIn panel ∷ r) (ran .count) rows)) (sym (exact .state))
+        (ticks-kept (ran .count) (memoryOf bytes) rows holds)))
+
+    -- the byte at a signal's place is its value
+    pub place-holds : (bytes : List ℕ) (rows : List (ℕ → ℕ)) → Holds bytes rows → (s : ℕ) → Signal n s
+        → getD bytes (place (processorIn panel s) 0 (slotIn panel s)) 0 ≡ VAL n (givenOf files) rows s
+    unfolding memoryOf
+    place-holds bytes rows k s g =
+        let there = holding .places s g in
+        kept-places formed acyclic ok (givenOf files) (memoryOf bytes) rows k s (processorIn panel s) (slotIn panel s) g (there .at) (there .is)
+
+  -- before cycle 1, as `load` leaves the bytes
+  pub opening-holds : Holds (openingBytes (files .NET) (files .MOD) (files .STIM)) []
+  unfolding openingBytes moduleOf
+  opening-holds =
+      kept-near formed acyclic ok (givenOf files) (memoryOf (openingBytes (files .NET) (files .MOD) (files .STIM))) (opening m (start n (givenOf files))) []
+      (held-near m few short (opening m (start n (givenOf files))) (listed memoryLength (λ a. 0)))
+      (kept-opening formed acyclic ok (givenOf files))

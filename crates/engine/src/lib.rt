@@ -1,0 +1,1 @@
+// Theorems on the machine over accepted files' buffers, without code.
