@@ -16,7 +16,7 @@ use Rattle.model.specs.Module.{Module, At, Laid}
 use Rattle.model.specs.Schedule.{modProcessors, modSlots, moduleOf, modCheck}
 use Rattle.model.specs.Stimulus.{held as given}
 use Rattle.model.proofs.Accepted.{net-size, mod-processors, mod-slots, mod-scheduled}
-use Rattle.tables.specs.Panel.{panelLength, signalsIn, slotsIn, kindIn, codesIn, handIn, processorIn, slotIn}
+use Rattle.tables.specs.Panel.{panelLength, signalsIn, slotsIn, finishedIn, watchedIn, maskIn, kindIn, codesIn, handIn, processorIn, slotIn}
 use Rattle.tables.specs.Program.{programLength, lineIn, signalAt, partAt, locationAt}
 use Rattle.tables.specs.Tables.{moduleIn, networkIn, Tables}
 use Rattle.tables.specs.Holding.{SameLines, Holding}
@@ -210,3 +210,12 @@ module _ (net table : List ℕ) (n : netCheck 4096 net ≡ pass) (m : modCheck (
           signals = record { size = same .size; kinds = same .kinds; gates = same .gates };
           places = λ s g. record { at = same .placed s g; is = same .places s g };
         }
+
+    -- the session is fresh: "with 0 cycles finished", "watch signal 1, mask 0"
+    pub loaded-head : (finishedIn (panelOf net table stim) ≡ 0) × (watchedIn (panelOf net table stim) ≡ 1) × (maskIn (panelOf net table stim) ≡ 0)
+    loaded-head =
+        (
+          omega (arith, head-there 5 (omega arith), head-there 6 (omega arith)),
+          omega (arith, head-there 7 (omega arith), head-there 8 (omega arith)),
+          head-there 9 (omega arith),
+        )

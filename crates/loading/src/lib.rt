@@ -96,7 +96,7 @@ fn program_byte(table: &[u8], processors: usize, slots: usize, a: usize) -> u8
 }
 
 // The program: MOD's lines, slot by slot.
-pub fn load_program(table: &[u8], program: &mut [u8])
+fn load_program(table: &[u8], program: &mut [u8])
     requires { ⌜ Schedules (now table) ⌝ }
     requires { ⌜ length (now program) ≡ programLength ⌝ }
     ensures { λ _. ⌜ now (program .exit) ≡ programOf (now (table .entry)) ⌝ }
@@ -143,7 +143,7 @@ fn mark_undefined(signals: usize, values: &mut [u8])
 }
 
 // "At t = 0 every signal has its given value, or U". The lines of time 0 stand first, since times rise.
-pub fn load_values(net: &[u8], stim: &[u8], values: &mut [u8])
+fn load_values(net: &[u8], stim: &[u8], values: &mut [u8])
     requires { ⌜ netCheck 4096 (now net) ≡ pass ⌝ }
     requires { ⌜ stimCheck (network (now net)) (now stim) ≡ pass ⌝ }
     requires { ⌜ length (now values) ≡ 4097 ⌝ }
@@ -217,7 +217,7 @@ fn memory_byte(table: &[u8], values: &[u8], processors: usize, slots: usize, a: 
 }
 
 // The memory before cycle 1, by the time 0 values.
-pub fn load_memory(table: &[u8], values: &[u8], memory: &mut [u8])
+fn load_memory(table: &[u8], values: &[u8], memory: &mut [u8])
     requires { ⌜ Schedules (now table) ⌝ }
     requires { ⌜ (length (now values) ≡ 4097) × (getD (now values) 0 0 ≡ 0) × (length (now memory) ≡ memoryLength) ⌝ }
     ensures { λ _. ⌜ now (memory .exit) ≡ openingWith (now (table .entry)) (valueIn (now (values .entry))) ⌝ }
@@ -355,7 +355,7 @@ fn fill_panel(
 }
 
 // The panel as the session opens, with given values in hand.
-pub fn load_panel(net: &[u8], table: &[u8], values: &[u8], panel: &mut [u8])
+fn load_panel(net: &[u8], table: &[u8], values: &[u8], panel: &mut [u8])
     requires { ⌜ netCheck 4096 (now net) ≡ pass ⌝ }
     requires { ⌜ Schedules (now table) ⌝ }
     requires { ⌜ (length (now values) ≡ 4097) × (length (now panel) ≡ panelLength) ⌝ }
