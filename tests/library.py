@@ -44,3 +44,33 @@ def check_files(library):
         return divmod(answer, 65536) if answer else None
 
     return check
+
+
+def session_archives():
+    """The archives with the panel's calls: that of `session`, and that of `opening` if the first has no opening."""
+    archives = [archive("session")]
+    symbols = subprocess.run(["nm", "-g", "--defined-only", archives[0]], capture_output=True, text=True).stdout
+    if "cavundir_open" not in symbols.split():
+        archives.append(archive("opening"))
+    return archives
+
+
+def link(archives):
+    """The functions of some archives that C can call. OSError, with what was printed, if they cannot be had."""
+    with tempfile.TemporaryDirectory() as folder:
+        shared = Path(folder) / "library.so"
+        done = subprocess.run(["gcc", "-shared", "-o", shared, "-Wl,--no-undefined", "-Wl,--whole-archive", *archives,
+                               "-Wl,--no-whole-archive"], capture_output=True, text=True)
+        if done.returncode != 0:
+            raise OSError(f"{done.stderr}gcc: exit status {done.returncode}")
+        return ctypes.CDLL(str(shared))
+
+
+def panel_calls(library):
+    """The panel's calls by name. They take a pointer and a length for each buffer, then the numbers."""
+    calls = {}
+    for name, buffers, numbers in (("open", 6, 0), ("set", 3, 2), ("watch", 3, 2), ("read", 3, 1), ("run", 3, 1)):
+        call = calls[name] = getattr(library, f"cavundir_{name}")
+        call.argtypes = [ctypes.c_void_p, ctypes.c_size_t] * buffers + [ctypes.c_uint32] * numbers
+        call.restype = ctypes.c_uint64
+    return calls

@@ -1,5 +1,8 @@
-"""What the tests read in the sources: the functions of a Rattle file, and the names that an antt file declares."""
+#!/usr/bin/env python3
+"""What the tests read in the sources: the functions of a Rattle file, the names that an antt file declares, and those that
+either imports. Run by itself it is a test: every name that a file imports is used in it."""
 import re
+import sys
 from dataclasses import dataclass
 from pathlib import Path
 
@@ -108,7 +111,69 @@ def declared(lines, members=False):
     return found
 
 
+def uncommented(text):
+    """The lines of an antt file without their comments."""
+    text = re.sub(r"\{-.*?-\}", lambda m: "\n" * m[0].count("\n"), text, flags=re.S)
+    return [re.sub(r"(^|\s)--(?=\s|$).*", "", line).rstrip() for line in text.split("\n")]
+
+
 def declarations(path):
-    text = re.sub(r"\{-.*?-\}", lambda m: "\n" * m[0].count("\n"), Path(path).read_text(encoding="utf-8"), flags=re.S)
-    lines = [re.sub(r"(^|\s)--(?=\s|$).*", "", line).rstrip() for line in text.split("\n")]
-    return declared([line for line in lines if line])
+    return declared([line for line in uncommented(Path(path).read_text(encoding="utf-8")) if line])
+
+
+# `use A.B.{a, _b_, c as d}` brings a, _b_ and d; `use A.B as c` and Rattle's `use a::B` bring one name
+IMPORT = re.compile(r"^(ghost\s+)?use\s+([^{};]+?)(?:\{([^{}]*)\})?;?\s*$", re.M)
+CLAUSE = re.compile(r"\b(?:ghost|requires|ensures)\b[^{};]*(?=\{)")
+
+
+def brought(where, names):
+    """The names that an import brings."""
+    items = [where] if names is None else [item.strip() for item in names.split(",")]
+    return [re.split(r"\s+as\s+|::|\.", item)[-1].strip() for item in items if item]
+
+
+def antt_words(text):
+    """The names of an antt text, without those after a full stop, which are fields or another module's."""
+    return set(re.findall(rf"(?<![^\s(){{}};,@]){NAME}", text))
+
+
+def is_used(name, words):
+    """A name is among the words: whole, or all parts of an operator."""
+    return name in words or ("_" in name and all(part in words for part in name.split("_") if part))
+
+
+def unused_imports(path):
+    """The names that a file imports and does not use, each with its line. Those of a `ghost use` are for the clauses."""
+    text = Path(path).read_text(encoding="utf-8")
+    if Path(path).suffix == ".rt":
+        text = visible(text)
+        rest = IMPORT.sub("", text)
+        words = set(re.findall(r"\w+", rest))
+        ghost_words = antt_words("\n".join(rest[m.end() : closed(rest, m.end())] for m in CLAUSE.finditer(rest)))
+    else:
+        text = "\n".join(uncommented(text))
+        words = antt_words(IMPORT.sub("", text))
+    found = []
+    for m in IMPORT.finditer(text):
+        line = text.count("\n", 0, m.start()) + 1
+        found += [(line, name) for name in brought(m[2], m[3]) if not is_used(name, ghost_words if m[1] else words)]
+    return found
+
+
+def main():
+    root = Path(__file__).resolve().parent.parent
+    passed = failed = 0
+    for path in sorted([*root.glob("crates/*/**/*.antt"), *root.glob("crates/*/**/*.rt")]):
+        faults = unused_imports(path)
+        for line, name in faults:
+            print(f"{path.relative_to(root)}:{line}: {name} is imported and not used")
+        if faults:
+            failed += 1
+        else:
+            passed += 1
+    print(f"{passed} passed, {failed} failed")
+    return 1 if failed else 0
+
+
+if __name__ == "__main__":
+    sys.exit(main())

@@ -1,7 +1,6 @@
 // The answers of the calls that C makes, as cases and as 64 bits.
 
 ghost use mathlib.Core.Path.{_≡_};
-ghost use Prim.Native.Nat.{_+_, _*_, _≤_};
 ghost use Rattle.model.specs.Session.{refused, ran};
 ghost use Rattle.answers.specs.Answers.{callAnswer, answerBits};
 

@@ -1,12 +1,12 @@
 -- The three checks in the order of the files: the first that refuses answers.
-use Prim.Native.Nat.{ℕ}
+use Prim.Native.Nat.{ℕ, _+_, _*_}
 use mathlib.Core.Path.{_≡_, sym, _∙_, ap}
 use mathlib.Core.List.{List}
-use Rattle.model.specs.Refusal.{Check, pass, fail, first}
+use Rattle.model.specs.Refusal.{Check, pass, fail}
 use Rattle.model.specs.Netlist.{network, netCheck}
 use Rattle.model.specs.Schedule.{modCheck}
 use Rattle.model.specs.Stimulus.{stimCheck}
-use Rattle.model.specs.Acceptance.{fileCheck}
+use Rattle.model.specs.Acceptance.{panelLimit, fileCheck}
 use Rattle.model.proofs.Refusals.{first-second, first-stays}
 use Rattle.netlist.specs.Answer.{netRefusal, Judged}
 use Rattle.netlist.specs.declared.NetAnswer.{NetAnswer}
@@ -17,24 +17,40 @@ use Rattle.schedule.specs.declared.ModAnswer.the-variants.{Accepted}
 use Rattle.schedule.proofs.Stages.{refused}
 use Rattle.stimulus.specs.Answer.{stimRefusal, Answers as StimAnswers}
 use Rattle.stimulus.specs.declared.StimAnswer.{StimAnswer}
+use Rattle.checks.specs.Answer.{fileRefusal}
 use Rattle.checks.specs.Code.{code, checked}
+use Rattle.checks.specs.declared.FileAnswer.{FileAnswer}
+use Rattle.checks.specs.declared.FileAnswer.the-variants.{Accepted as FilesAccepted, Refused}
 
 module _ (net table stim : List ℕ) where
-  pub net-stops : (r : NetAnswer) (size : ℕ) → Judged (netCheck 4096 net) size r → Refusal r → code (netRefusal r) ≡ checked net table stim
-  unfolding checked fileCheck
-  net-stops r size j f = ap code (j .refusal ∙ (e ∙ sym (first-stays (netCheck 4096 net) _ e)))
+  abbrev all-files : Check
+  all-files = fileCheck panelLimit (record { NET = net; MOD = table; STIM = stim })
+
+  pub net-stops : (r : NetAnswer) (size : ℕ) → Judged (netCheck 4096 net) size r → Refusal r → netRefusal r ≡ all-files
+  unfolding fileCheck
+  net-stops r size j f = j .refusal ∙ (e ∙ sym (first-stays (netCheck 4096 net) _ e))
     where
       e : netCheck 4096 net ≡ fail (f .number) (f .returned)
       e = sym (j .refusal) ∙ f .is
 
   module _ (net-right : netCheck 4096 net ≡ pass) where
     pub mod-stops : (r : ModAnswer) (p c : ℕ) → Answers p c (modCheck (network net) table) r → ((a b : ℕ) → r ≡ Accepted a b → ⊥)
-        → code (modRefusal r) ≡ checked net table stim
-    unfolding checked fileCheck
+        → modRefusal r ≡ all-files
+    unfolding fileCheck
     mod-stops r p c answers other =
-        ap code (refused r p c 0 0 _ (stimCheck (network net) stim) answers other .refusal ∙ sym (first-second (netCheck 4096 net) _ net-right))
+        refused r p c 0 0 _ (stimCheck (network net) stim) answers other .refusal ∙ sym (first-second (netCheck 4096 net) _ net-right)
 
-    pub stim-last : (r : StimAnswer) → modCheck (network net) table ≡ pass → StimAnswers (network net) stim r → code (stimRefusal r) ≡ checked net table stim
-    unfolding checked fileCheck
+    pub stim-last : (r : StimAnswer) → modCheck (network net) table ≡ pass → StimAnswers (network net) stim r → stimRefusal r ≡ all-files
+    unfolding fileCheck
     stim-last r mod-right answers =
-        ap code (answers .refusal ∙ sym (first-second (netCheck 4096 net) _ net-right ∙ first-second (modCheck (network net) table) _ mod-right))
+        answers .refusal ∙ sym (first-second (netCheck 4096 net) _ net-right ∙ first-second (modCheck (network net) table) _ mod-right)
+
+  -- the answer as one number
+  module _ (r : FileAnswer) (is : fileRefusal r ≡ all-files) where
+    pub accepted-code : r ≡ FilesAccepted → 0 ≡ checked net table stim
+    unfolding checked
+    accepted-code e = ap code (ap fileRefusal (sym e) ∙ is)
+
+    pub refused-code : (number returned : ℕ) → r ≡ Refused number returned → 65536 * number + returned ≡ checked net table stim
+    unfolding checked
+    refused-code number returned e = ap code (ap fileRefusal (sym e) ∙ is)

@@ -1,75 +1,92 @@
-// The three file checks one after the other, for tests and measurements in C.
+// The three file checks one after the other, for the opening, and as one number for tests and measurements in C.
 
 ghost use mathlib.Core.Path.{_≡_};
-ghost use Prim.Native.Nat.{_+_, _*_, _≤_};
-ghost use Rattle.model.specs.Refusal.{pass};
-ghost use Rattle.model.specs.Netlist.{netCheck, network};
-ghost use Rattle.model.specs.Stimulus.{stimCheck};
+ghost use Prim.Native.Nat.{_+_, _*_};
+ghost use Rattle.model.specs.Acceptance.{panelLimit, fileCheck};
 ghost use Rattle.netlist.specs.Answer.{netRefusal};
 ghost use Rattle.schedule.specs.Answer.{modRefusal};
 ghost use Rattle.stimulus.specs.Answer.{stimRefusal};
-ghost use Rattle.checks.specs.Code.{code, checked};
+ghost use Rattle.checks.specs.Answer.{fileRefusal};
+ghost use Rattle.checks.specs.Code.{checked};
 use netlist::NetAnswer;
 use schedule::ModAnswer;
 use stimulus::StimAnswer;
 
+// The files are accepted, or refused with a number and what it returns (01, Refusals).
+pub enum FileAnswer {
+    Accepted,
+    Refused(u8, u16),
+}
+
+// NET's answer, number by number.
+fn net_answer(answer: NetAnswer) -> FileAnswer
+    ensures { λ r. ⌜ fileRefusal r ≡ netRefusal answer ⌝ }
+{
+    match answer {
+        NetAnswer::Accepted(_) => FileAnswer::Accepted,
+        NetAnswer::Misformed(line) => FileAnswer::Refused(10, line),
+        NetAnswer::Layout(line) => FileAnswer::Refused(11, line),
+        NetAnswer::Sources(line) => FileAnswer::Refused(12, line),
+        NetAnswer::Chain(signal) => FileAnswer::Refused(13, signal),
+    }
+}
+
+// MOD's answer, number by number.
+fn mod_answer(answer: ModAnswer) -> FileAnswer
+    ensures { λ r. ⌜ fileRefusal r ≡ modRefusal answer ⌝ }
+{
+    match answer {
+        ModAnswer::Accepted(_, _) => FileAnswer::Accepted,
+        ModAnswer::Misformed(line) => FileAnswer::Refused(20, line),
+        ModAnswer::Layout(line) => FileAnswer::Refused(21, line),
+        ModAnswer::Placement(signal) => FileAnswer::Refused(22, signal),
+        ModAnswer::Send(line) => FileAnswer::Refused(24, line),
+        ModAnswer::Reception(line) => FileAnswer::Refused(25, line),
+        ModAnswer::WrongOperand(line) => FileAnswer::Refused(23, line),
+    }
+}
+
+// STIM's answer, number by number.
+fn stim_answer(answer: StimAnswer) -> FileAnswer
+    ensures { λ r. ⌜ fileRefusal r ≡ stimRefusal answer ⌝ }
+{
+    match answer {
+        StimAnswer::Accepted(_) => FileAnswer::Accepted,
+        StimAnswer::Misformed(line) => FileAnswer::Refused(30, line),
+        StimAnswer::Layout(line) => FileAnswer::Refused(31, line),
+        StimAnswer::NotInput(line) => FileAnswer::Refused(32, line),
+    }
+}
+
+// "Order: NET, MOD, STIM." The first that breaks its conditions is refused, before the next is read.
+pub fn check_files(net: &[u8], table: &[u8], stim: &[u8]) -> FileAnswer
+    ensures { λ r. ⌜ fileRefusal r ≡ fileCheck panelLimit (record { NET = now (net .entry); MOD = now (table .entry); STIM = now (stim .entry) }) ⌝ }
+{
+    let first = netlist::check_net(net, 4096);
+    let NetAnswer::Accepted(_) = first else {
+        return net_answer(first);
+    };
+    let second = schedule::check_mod(net, table);
+    let ModAnswer::Accepted(_, _) = second else {
+        return mod_answer(second);
+    };
+    stim_answer(stimulus::check_stim(net, stim))
+}
+
 // A refusal's number and what it returns, as one number.
-fn coded(number: u64, returned: u16) -> u64
-    requires { ⌜ number ≤ 100 ⌝ }
+fn coded(number: u8, returned: u16) -> u64
     ensures { λ r. ⌜ r ≡ 65536 * number + returned ⌝ }
 {
-    65536 * number + (returned as u64)
+    65536 * (number as u64) + (returned as u64)
 }
 
-fn net_code(answer: NetAnswer) -> u64
-    ensures { λ r. ⌜ r ≡ code (netRefusal answer) ⌝ }
-{
-    match answer {
-        NetAnswer::Accepted(_) => 0,
-        NetAnswer::Misformed(line) => coded(10, line),
-        NetAnswer::Layout(line) => coded(11, line),
-        NetAnswer::Sources(line) => coded(12, line),
-        NetAnswer::Chain(signal) => coded(13, signal),
-    }
-}
-
-fn mod_code(answer: ModAnswer) -> u64
-    ensures { λ r. ⌜ r ≡ code (modRefusal answer) ⌝ }
-{
-    match answer {
-        ModAnswer::Accepted(_, _) => 0,
-        ModAnswer::Misformed(line) => coded(20, line),
-        ModAnswer::Layout(line) => coded(21, line),
-        ModAnswer::Placement(signal) => coded(22, signal),
-        ModAnswer::Send(line) => coded(24, line),
-        ModAnswer::Reception(line) => coded(25, line),
-        ModAnswer::WrongOperand(line) => coded(23, line),
-    }
-}
-
-fn stim_code(answer: StimAnswer) -> u64
-    ensures { λ r. ⌜ r ≡ code (stimRefusal answer) ⌝ }
-{
-    match answer {
-        StimAnswer::Accepted(_) => 0,
-        StimAnswer::Misformed(line) => coded(30, line),
-        StimAnswer::Layout(line) => coded(31, line),
-        StimAnswer::NotInput(line) => coded(32, line),
-    }
-}
-
-// NET, MOD and STIM in their order: the first that breaks its conditions is refused.
+// The three files' check as one number.
 #[no_mangle]
 pub extern "C" fn cavundir_check_files(net: &[u8], table: &[u8], stim: &[u8]) -> u64
     ensures { λ r. ⌜ r ≡ checked (now (net .entry)) (now (table .entry)) (now (stim .entry)) ⌝ }
 {
-    let first = netlist::check_net(net, 4096);
-    let NetAnswer::Accepted(_) = first else {
-        return net_code(first);
+    let FileAnswer::Refused(number, returned) = check_files(net, table, stim) else {
+        return 0;
     };
-    let second = schedule::check_mod(net, table);
-    let ModAnswer::Accepted(_, _) = second else {
-        return mod_code(second);
-    };
-    stim_code(stimulus::check_stim(net, stim))
+    coded(number, returned)
 }

@@ -5,12 +5,10 @@ use mathlib.Core.Bool.{Bool, true, false, not}
 use mathlib.Core.Logic.{_⊎_, inl, inr}
 use native.Mathlib.Omega.{arith}
 use lib.Dec.{eqb}
-use borrow.Author.Tests.{eqb-true, eqb-false, eq-eqb}
-use Rattle.logic.specs.Choice.{if_then_else_}
-use Rattle.model.specs.Network.{Network, Signal, input}
+use Rattle.model.specs.Network.{Network, Signal}
 use Rattle.model.specs.Module.{Module, At, Laid, noSender, received}
 use Rattle.model.specs.Machine.{Memory, fetch, operand, result, sent, stored, slot, slots, alternate, cycle}
-use Rattle.model.proofs.Machine.{Near, near-refl, slot-near, near-alternated}
+use Rattle.model.proofs.Machine.{Near, slot-near, near-alternated}
 use Rattle.model.proofs.Operands.{differ}
 use Rattle.tables.specs.Holding.{SameLines}
 

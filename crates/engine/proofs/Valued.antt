@@ -1,19 +1,17 @@
 -- The bytes that the machine leaves hold VAL at the place of every signal, for accepted files: what `load` writes, and what every cycle
 -- and every run makes of it, by the contracts of `loading` and `machine`. The idea: the bytes' memory keeps step with the rows, and the
 -- tables run as the files' own machine.
-use Prim.Native.Nat.{ℕ, zero, suc, _<_, _≤_}
-use mathlib.Core.Path.{_≡_, refl, sym, subst, _∙_, ap}
-use mathlib.Core.Bool.{Bool}
+use Prim.Native.Nat.{ℕ, zero, suc, _≤_}
+use mathlib.Core.Path.{_≡_, refl, sym, subst}
 use mathlib.Core.List.{List, [], _∷_}
-use native.Mathlib.Omega.{arith}
 use lib.ListN.{getD}
 use Rattle.logic.specs.Listed.{listed}
 use Rattle.model.specs.Files.{Files}
 use Rattle.model.specs.Network.{Network, Signal}
 use Rattle.model.specs.Value.{start, VAL}
-use Rattle.model.specs.Module.{Module, At}
+use Rattle.model.specs.Module.{Module}
 use Rattle.model.specs.Machine.{Memory, cycle, opening}
-use Rattle.model.specs.Schedule.{modProcessors, modSlots, moduleOf}
+use Rattle.model.specs.Schedule.{moduleOf}
 use Rattle.model.specs.Session.{runs, ticks, watched}
 use Rattle.model.specs.Acceptance.{panelLimit, networkOf, scheduleOf, givenOf, Accepted}
 use Rattle.model.specs.Demands.{Places}
@@ -30,7 +28,7 @@ use Rattle.tables.specs.Tables.{networkIn, moduleIn}
 use Rattle.tables.specs.Holding.{Holding}
 use Rattle.machine.specs.Running.{cycleIn, watchedValue, runIn}
 use Rattle.loading.specs.Loaded.{openingBytes}
-use Rattle.engine.proofs.Same.{near-trans, cycle-same}
+use Rattle.engine.proofs.Same.{cycle-same}
 
 module _ (files : Files) (accepted : Accepted panelLimit files) where
   abbrev n : Network

@@ -1,25 +1,21 @@
 -- The columns at a place of a file, and what reading them answers.
-use Prim.Native.Nat.{ℕ, suc, _+_, _-_, _<_, _≤_, min}
-use mathlib.Core.Path.{_≡_, refl, sym, _∙_, ap, subst}
+use Prim.Native.Nat.{ℕ, suc, _+_, _<_, _≤_}
+use mathlib.Core.Path.{_≡_, refl, _∙_}
 use mathlib.Core.Bool.{Bool, true, false}
 use mathlib.Core.List.{List, [], _∷_}
 use native.Mathlib.Omega.{arith}
 use native.Mathlib.Numerals.{towards-suc}
-use lib.Dec.{eqb}
-use lib.ListN.{length, getD, take, drop, length-take, length-drop}
+use lib.ListN.{length, getD, drop, length-take, length-drop}
 use lib.Seq.{drop-cons}
-use borrow.Author.Tests.{eq-eqb, ne-eqb}
+use borrow.Author.Tests.{ne-eqb}
 use Rattle.logic.specs.Test.{_and_}
-use Rattle.logic.specs.Choice.{if_then_else_}
-use Rattle.logic.proofs.Tests.{and-true}
-use Rattle.fields.specs.Field.{columnsAt, isField, isFieldAt, isNumeral, afterSpaces, number, numberAt}
+use Rattle.fields.specs.Field.{columnsAt, isField, isFieldAt, isNumeral, afterSpaces, number}
 use Rattle.fields.specs.Reading.{readField}
 use Rattle.fields.specs.Scan.{scans, fieldOf}
-use Rattle.fields.specs.declared.Field.{Field}
-use Rattle.fields.specs.declared.Field.the-variants.{Number, Misformed}
+use Rattle.fields.specs.declared.Field.the-variants.{Misformed}
 use Rattle.fields.specs.declared.Scan.{Scan}
 use Rattle.fields.specs.declared.Scan.the-variants.{Blank, Digits, Bad}
-use Rattle.fields.proofs.Scanning.{Numeral, scans-numeral, scans-found}
+use Rattle.fields.proofs.Scanning.{scans-numeral, scans-found}
 
 abbrev pub six : List ℕ → ℕ → List ℕ
 six l at =

@@ -4,18 +4,16 @@ use mathlib.Core.Path.{_≡_, refl, ap}
 use mathlib.Core.Bool.{Bool, true, false}
 use mathlib.Core.List.{List}
 use native.Mathlib.Omega.{arith}
-use lib.Dec.{eqb}
+use lib.Dec.{eqb, ltb}
 use lib.ListN.{length, getD, List·getD-eq-default}
-use borrow.Author.Tests.{eq-eqb, ne-eqb}
+use borrow.Author.Tests.{ltb-true, ltb-false, eqb-true}
 use Rattle.logic.specs.Test.{_and_, all}
 use Rattle.logic.specs.Choice.{if_then_else_}
 use Rattle.logic.proofs.Tests.{all-more, all-fails}
 use Rattle.fields.specs.Field.{isFieldAt, numberAt}
-use Rattle.fields.specs.Line.{isLineAt}
+use Rattle.fields.specs.Line.{newline, isLineAt}
 use Rattle.fields.specs.Reading.{readField, readLine}
-use Rattle.fields.specs.declared.Field.{Field}
 use Rattle.fields.specs.declared.Field.the-variants.{Number, Misformed}
-use Rattle.fields.specs.declared.Line.{Line}
 use Rattle.fields.specs.declared.Line.the-variants.{Next, Broken}
 
 -- what the answer of a field tells
@@ -40,6 +38,14 @@ field-wrong l at e = go (isFieldAt l at) refl e
     go true f q = absurd (let z : _≡_ {A = ℕ} 0 1 = cc in omega arith)
     go false f q = refl
 
+-- byte 10 stands before the file's end
+pub ended-within : (l : List ℕ) (place : ℕ) → eqb (getD l place 0) newline ≡ true → place < length l
+ended-within l place e = go (ltb place (length l)) refl
+  where
+    go : (b : Bool) → ltb place (length l) ≡ b → place < length l
+    go true f = ltb-true place (length l) f
+    go false f = absurd (omega (arith, eqb-true (getD l place 0) newline e, List·getD-eq-default l 0 (ltb-false place (length l) f)))
+
 -- a line read as far as its first k fields, all right, the next one standing at place
 module _ (l : List ℕ) (at k place : ℕ) (here : place ≡ at + 6 * k) where
   abbrev right : ℕ → Bool
@@ -59,15 +65,12 @@ module _ (l : List ℕ) (at k place : ℕ) (here : place ≡ at + 6 * k) where
     at-end : k ≡ n
     at-end = omega arith
 
-    pub line-right : getD l place 0 ≡ 10 → readLine l at n ≡ Next (place + 1)
+    pub line-right : eqb (getD l place 0) newline ≡ true → readLine l at n ≡ Next (place + 1)
     unfolding readLine isLineAt _and_
     line-right e =
         let q : at + (6 * k + 1) ≡ place + 1 = omega arith in
-        rw (← at-end, h, ← here, eq-eqb (getD l place 0) 10 e) (ap Next q)
+        rw (← at-end, h, ← here, e) (ap Next q)
 
-    pub line-unended : (getD l place 0 ≡ 10 → ⊥) → readLine l at n ≡ Broken
+    pub line-unended : eqb (getD l place 0) newline ≡ false → readLine l at n ≡ Broken
     unfolding readLine isLineAt _and_
-    line-unended e = rw (← at-end, h, ← here, ne-eqb (getD l place 0) 10 e)
-
-    pub line-cut : length l ≤ place → readLine l at n ≡ Broken
-    line-cut s = line-unended (λ (e : getD l place 0 ≡ 10). omega (arith, List·getD-eq-default l 0 s))
+    line-unended e = rw (← at-end, h, ← here, e)

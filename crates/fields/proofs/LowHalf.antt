@@ -1,17 +1,16 @@
 -- The number of a right field from the low halves of its bytes: a space's is 0, a digit's is its value.
-use Prim.Native.Nat.{ℕ, zero, suc, _+_, _-_, _*_, _%_, _<_, _≤_}
-use mathlib.Core.Path.{_≡_, refl, sym, _∙_, ap, subst}
+use Prim.Native.Nat.{ℕ, _+_, _-_, _*_, _%_, _≤_}
+use mathlib.Core.Path.{_≡_, refl, sym, _∙_}
 use mathlib.Core.Bool.{Bool, true, false, true≢false}
 use mathlib.Core.List.{List, [], _∷_}
 use native.Mathlib.Omega.{arith}
-use native.Mathlib.Decide.{decLe}
 use lib.Dec.{eqb, leb}
-use lib.ListN.{length, getD}
+use lib.ListN.{length}
 use borrow.Author.Tests.{eqb-true, leb-true, leb-false}
-use Rattle.logic.specs.Test.{_and_, every}
+use Rattle.logic.specs.Test.{every}
 use Rattle.logic.specs.Choice.{if_then_else_}
 use Rattle.logic.proofs.Tests.{and-left, and-right}
-use Rattle.fields.specs.Field.{isDigit, afterSpaces, decimal, noLeadingZero, isNumeral, isField, isFieldAt, number, numberAt, columnsAt}
+use Rattle.fields.specs.Field.{isDigit, afterSpaces, decimal, isNumeral, isFieldAt, number, numberAt}
 use Rattle.fields.specs.Scan.{lowNumber}
 use Rattle.fields.proofs.Digit.{digit-low, digit-high, numeral-digits, numeral-small}
 use Rattle.fields.proofs.Columns.{six, columns-six, six-field, field-cut}

@@ -2,17 +2,15 @@
 use Prim.Native.Nat.{ℕ, zero, suc, _+_, _*_, _<_, _≤_}
 use mathlib.Core.Path.{_≡_, refl, sym, _∙_, ap, ap₂, subst}
 use mathlib.Core.Bool.{Bool, true, false}
-use mathlib.Core.List.{List, [], _∷_, _++_, flatMap, append-assoc, append-nil}
+use mathlib.Core.List.{List, [], _∷_, _++_, flatMap, append-assoc}
 use native.Mathlib.Omega.{arith}
-use native.Mathlib.Nat.{add-zero}
 use lib.Dec.{eqb, ltb}
 use lib.ListN.{length, getD, take, drop, length-append, List·getD-eq-default}
 use lib.Seq.{take-at, drop-append-seam, getD-append-add, getD-append-seam, take-add, drop-drop, drop-cons}
 use borrow.Author.Tests.{eq-eqb, eqb-true, ltb-true, ltb-false}
 use Rattle.logic.specs.Test.{_and_, all}
-use Rattle.logic.specs.Choice.{if_then_else_}
-use Rattle.logic.proofs.Tests.{and-true, and-left, and-right, all-at, all-true}
-use Rattle.fields.specs.Field.{columnsAt, isFieldAt, numberAt, isField, number}
+use Rattle.logic.proofs.Tests.{and-left, and-right, all-at, all-true}
+use Rattle.fields.specs.Field.{columnsAt, isFieldAt, numberAt, number}
 use Rattle.fields.specs.Line.{isLineAt, numbersAt, newline, lineLength}
 use Rattle.fields.specs.Text.{fieldText, lineText}
 use Rattle.fields.specs.Reading.{readField, readLine}

@@ -1,15 +1,15 @@
 -- Reading column by column finds a number just where the columns are spaces and then a numeral, and finds that number.
-use Prim.Native.Nat.{ℕ, zero, suc, _+_, _-_, _*_, _<_, _≤_}
+use Prim.Native.Nat.{ℕ, _+_, _-_, _*_, _≤_}
 use mathlib.Core.Path.{_≡_, refl, sym, _∙_, subst, ap}
-use mathlib.Core.Bool.{Bool, true, false, not}
+use mathlib.Core.Bool.{Bool, true, false}
 use mathlib.Core.List.{List, [], _∷_}
 use native.Mathlib.Omega.{arith}
 use lib.Dec.{eqb, leb}
-use borrow.Author.Tests.{eqb-true, eqb-false, leb-true, leb-false, eq-eqb, ne-eqb, le-leb, lt-leb, not-true}
+use borrow.Author.Tests.{eqb-false, leb-true, ne-eqb, le-leb, not-true}
 use Rattle.logic.specs.Test.{_and_, every}
 use Rattle.logic.specs.Choice.{if_then_else_}
 use Rattle.logic.proofs.Tests.{and-left, and-right, and-true}
-use Rattle.fields.specs.Field.{space, digit0, isDigit, afterSpaces, decimal, noLeadingZero, isNumeral, number}
+use Rattle.fields.specs.Field.{isDigit, afterSpaces, decimal, noLeadingZero, isNumeral, number}
 use Rattle.fields.specs.Scan.{extended, scan, scans}
 use Rattle.fields.specs.declared.Scan.{Scan}
 use Rattle.fields.specs.declared.Scan.the-variants.{Blank, Digits, Bad}

@@ -9,7 +9,7 @@ use native.Mathlib.Nat.{not-le-of-lt}
 use lib.Dec.{eqb, leb, ltb}
 use lib.ListN.{length, replicate, length-append, length-replicate}
 use borrow.Author.Tests.{eqb-true, eqb-false, le-leb, lt-leb, ne-eqb, eq-eqb, ltb-true, ltb-false, not-true}
-use Rattle.logic.specs.Test.{_and_, _or_, every}
+use Rattle.logic.specs.Test.{_or_, every}
 use Rattle.logic.specs.Choice.{if_then_else_}
 use Rattle.logic.proofs.Tests.{and-left, and-right, and-true}
 use Rattle.fields.specs.Field.{isDigit, afterSpaces, decimal, noLeadingZero, isNumeral, isField, number}

@@ -1,12 +1,13 @@
 // Six-column fields and their lines: reading at any place of a byte slice, and writing.
 
 ghost use mathlib.Core.Path.{_≡_};
-ghost use mathlib.Core.Bool.{Bool, true, false};
-ghost use Prim.Native.Nat.{_+_, _*_, _%_, _<_, _≤_};
-ghost use lib.ListN.{length};
+ghost use mathlib.Core.Bool.{true};
+ghost use Prim.Native.Nat.{_+_, _%_, _<_, _≤_};
+ghost use lib.Dec.{eqb};
+ghost use lib.ListN.{length, getD};
 ghost use lib.Seq.{sets};
 ghost use Rattle.fields.specs.Field.{isFieldAt, numberAt};
-ghost use Rattle.fields.specs.Line.{lineLength};
+ghost use Rattle.fields.specs.Line.{newline, lineLength};
 ghost use Rattle.fields.specs.Text.{columnOf, fieldText, lineText};
 ghost use Rattle.fields.specs.Reading.{readField, readLine};
 ghost use Rattle.fields.specs.Scan.{extended, scan, fieldOf, lowNumber};
@@ -112,6 +113,16 @@ pub fn read_field(s: &[u8], at: usize) -> Field
     field_of(scan_column(e, s[at + 5]), at + 6)
 }
 
+// Byte 10 stands at a place.
+pub fn ends_line(s: &[u8], at: usize) -> bool
+    ensures { λ r. ⌜ r ≡ eqb (getD (now (s .entry)) at 0) newline ⌝ }
+{
+    if s.len() <= at {
+        return false;
+    }
+    s[at] == 10
+}
+
 // The line of `count` fields at a place: each field in turn, then byte 10.
 pub fn read_line(s: &[u8], at: usize, count: usize) -> Line
     ensures { λ r. ⌜ r ≡ readLine (now (s .entry)) at count ⌝ }
@@ -125,10 +136,7 @@ pub fn read_line(s: &[u8], at: usize, count: usize) -> Line
         place = next;
         k += 1;
     }
-    if s.len() <= place {
-        return Line::Broken;
-    }
-    if s[place] == 10 {
+    if ends_line(s, place) {
         return Line::Next(place + 1);
     }
     Line::Broken

@@ -1,6 +1,6 @@
 -- A result of legal operands is legal: for all translations, all functions and every gate in common. Each of them chooses among
 -- constants, operands and a parity, so one lemma on choices serves them all.
-use Prim.Native.Nat.{ℕ, _+_, _%_, _≤_}
+use Prim.Native.Nat.{ℕ, _+_, _%_}
 use mathlib.Core.Path.{_≡_, refl}
 use mathlib.Core.Bool.{Bool, true, false}
 use mathlib.Core.List.{[], _∷_}

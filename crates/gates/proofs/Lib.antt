@@ -1,3 +1,4 @@
 pub mod Values
 pub mod Counted
+pub mod Translations
 pub mod Legal

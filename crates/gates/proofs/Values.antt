@@ -1,12 +1,12 @@
 -- Laws of `specs/Value.antt`: a value is known below 2, and unknown where its half is 1.
-use Prim.Native.Nat.{ℕ, _+_, _/_, _<_, _≤_}
-use mathlib.Core.Path.{_≡_, refl, sym, _∙_}
+use Prim.Native.Nat.{ℕ, _/_, _<_, _≤_}
+use mathlib.Core.Path.{_≡_, refl, sym}
 use mathlib.Core.Bool.{Bool, true, false}
 use native.Mathlib.Omega.{arith}
 use lib.Dec.{eqb}
 use borrow.Author.Tests.{eqb-true, eqb-false, ne-eqb, eq-eqb}
 use Rattle.logic.specs.Test.{_or_}
-use Rattle.gates.specs.Value.{U, Z, known, unknown}
+use Rattle.gates.specs.Value.{known, unknown}
 
 pub known-below : (v : ℕ) → v < 2 → known v ≡ true
 unfolding known _or_

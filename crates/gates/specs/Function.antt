@@ -1,7 +1,7 @@
 -- Functions of four operands, house definitions (01, Values and gates).
 use Prim.Native.Nat.{ℕ, _+_, _%_}
 use mathlib.Core.Bool.{Bool}
-use mathlib.Core.List.{List, [], _∷_}
+use mathlib.Core.List.{[], _∷_}
 use lib.Dec.{eqb, leb}
 use Rattle.logic.specs.Test.{_and_, some, every, count}
 use Rattle.logic.specs.Choice.{if_then_else_}

@@ -2,11 +2,11 @@
 // Codes of a value: 0, 1, 2 (U, undefined), 3 (Z, floating).
 
 ghost use mathlib.Core.Path.{_≡_};
-ghost use Prim.Native.Nat.{_≤_};
+ghost use Prim.Native.Nat.{_<_, _≤_};
 ghost use mathlib.Core.List.{[], _∷_};
 ghost use Rattle.logic.specs.Test.{one, count};
 ghost use Rattle.gates.specs.Value.{is};
-ghost use Rattle.gates.specs.Translation.{isTranslation, isConstant, translation, invert, withoutZ};
+ghost use Rattle.gates.specs.Translation.{isTranslation, isConstant, translation};
 ghost use Rattle.gates.specs.Function.{isFunction, function, conjunction, parity, selection, majority};
 ghost use Rattle.gates.specs.Gate.{gate};
 
@@ -41,46 +41,42 @@ pub fn is_constant(code: u16) -> bool
     code <= 3
 }
 
-// Translation 5.
-fn inverse(v: u8) -> u8
-    ensures { λ r. ⌜ r ≡ invert v ⌝ }
+// Translation g of the value v, code and value being legal. The 28 results stand in one number, that of v by g in the two bits from
+// 2 * (4 * g + v) on: a shift takes no branch, and the codes of a network follow no pattern that a processor could predict.
+fn packed(g: u8, v: u8) -> u8
+    requires { ⌜ (g ≤ 6) × (v ≤ 3) ⌝ }
+    ensures { λ r. ⌜ r ≡ translation g v ⌝ }
 {
-    if v == 0 {
-        return 1;
-    }
-    if v == 1 {
-        return 0;
-    }
-    2
+    let entry = 4 * (g as u64) + (v as u64);
+    let results: u64 = 0xA4A1E4FFAA5500;
+    ((results >> (2 * entry)) % 4) as u8
 }
 
-// Translation 6.
-fn without_z(v: u8) -> u8
-    ensures { λ r. ⌜ r ≡ withoutZ v ⌝ }
-{
-    if v == 3 {
-        return 2;
-    }
-    v
-}
-
-// Translation g of the value v.
-pub fn translate(g: u8, v: u8) -> u8
+// The same of a value above 3, which is read literally.
+fn literal(g: u8, v: u8) -> u8
+    requires { ⌜ (g ≤ 6) × (3 < v) ⌝ }
     ensures { λ r. ⌜ r ≡ translation g v ⌝ }
 {
     if g <= 3 {
         return g;
     }
-    if g == 4 {
-        return v;
-    }
     if g == 5 {
-        return inverse(v);
+        return 2;
     }
-    if g == 6 {
-        return without_z(v);
+    v
+}
+
+// Translation g of the value v. The tests that come first always end alike where codes and values are legal.
+pub fn translate(g: u8, v: u8) -> u8
+    ensures { λ r. ⌜ r ≡ translation g v ⌝ }
+{
+    if 6 < g {
+        return 2;
     }
-    2
+    if 3 < v {
+        return literal(g, v);
+    }
+    packed(g, v)
 }
 
 // 1 where v is k, else 0.

@@ -3,7 +3,7 @@
 use Prim.Native.Nat.{ℕ, zero, suc, _+_, _*_, _/_, _%_, _<_, _≤_}
 use mathlib.Core.Path.{_≡_, refl, _∙_, ap}
 use mathlib.Core.List.{List}
-use mathlib.Core.Logic.{_⊎_, ⊎-map}
+use mathlib.Core.Logic.{⊎-map}
 use native.Mathlib.Omega.{arith}
 use lib.ListN.{getD}
 use Rattle.logic.proofs.Listed.{listed-length, listed-at}
@@ -213,9 +213,8 @@ module _ (net table : List ℕ) (n : netCheck 4096 net ≡ pass) (m : modCheck (
 
     -- the session is fresh: "with 0 cycles finished", "watch signal 1, mask 0"
     pub loaded-head : (finishedIn (panelOf net table stim) ≡ 0) × (watchedIn (panelOf net table stim) ≡ 1) × (maskIn (panelOf net table stim) ≡ 0)
-    loaded-head =
-        (
-          omega (arith, head-there 5 (omega arith), head-there 6 (omega arith)),
-          omega (arith, head-there 7 (omega arith), head-there 8 (omega arith)),
-          head-there 9 (omega arith),
-        )
+    loaded-head = (
+      omega (arith, head-there 5 (omega arith), head-there 6 (omega arith)),
+      omega (arith, head-there 7 (omega arith), head-there 8 (omega arith)),
+      head-there 9 (omega arith),
+    )

@@ -1,6 +1,6 @@
 -- Laws of `any`: where the test passes that passes at some number below n.
 use Prim.Native.Nat.{ℕ, zero, suc, _<_}
-use mathlib.Core.Path.{_≡_, refl, sym, subst, _∙_}
+use mathlib.Core.Path.{_≡_, sym, subst, _∙_}
 use mathlib.Core.Bool.{Bool, true, false, false≢true}
 use mathlib.Core.Logic.{⊎-elim}
 use native.Mathlib.Omega.{arith}

@@ -1,5 +1,5 @@
 -- Slots, cycles and runs of the code are those of the model's machine, on the bytes that hold its memory.
-use Prim.Native.Nat.{ℕ, zero, suc, _+_, _/_, _%_, _^_, _<_, _≤_}
+use Prim.Native.Nat.{ℕ, zero, suc, _+_, _<_, _≤_}
 use mathlib.Core.Path.{_≡_, refl, sym, _∙_, ap}
 use mathlib.Core.Bool.{Bool, true, false}
 use mathlib.Core.List.{List}
@@ -7,13 +7,13 @@ use native.Mathlib.Omega.{arith}
 use native.Mathlib.Numerals.{add-one}
 use lib.Dec.{eqb}
 use borrow.Author.Tests.{eqb-true, eqb-false}
-use lib.ListN.{length, getD}
+use lib.ListN.{length}
 use Rattle.model.specs.Network.{Network}
 use Rattle.model.specs.Module.{Module, At, Laid}
 use Rattle.model.specs.Machine.{Memory, slot, slots, alternate, cycle}
 use Rattle.model.specs.Session.{Run, unlessStopped, runs, ticks, watched}
-use Rattle.model.proofs.Machine.{Near, slot-near, near-alternated, cycle-near}
-use Rattle.memory.specs.Memory.{memoryLength, place, memoryOf, within, held}
+use Rattle.model.proofs.Machine.{slot-near, near-alternated, cycle-near}
+use Rattle.memory.specs.Memory.{memoryLength, memoryOf, within, held}
 use Rattle.memory.proofs.Written.{written-self}
 use Rattle.memory.proofs.Near.{held-near, held-step}
 

@@ -1,9 +1,9 @@
 -- What stands at the place of an operand is what the machine fetches, for the four parts and none alike.
-use Prim.Native.Nat.{ℕ, _+_, _*_, _<_}
+use Prim.Native.Nat.{ℕ, _<_}
 use mathlib.Core.Path.{_≡_, refl}
 use mathlib.Core.List.{List}
 use lib.ListN.{getD}
-use Rattle.model.specs.Machine.{Memory, fetch}
+use Rattle.model.specs.Machine.{fetch}
 use Rattle.operands.specs.declared.Operand.{Operand}
 use Rattle.operands.specs.declared.Operand.the-variants.{LocalEarlier, LocalPresent, SwitchEarlier, SwitchPresent, None}
 use Rattle.operands.specs.Operand.{partOf, locationOf}

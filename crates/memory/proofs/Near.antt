@@ -1,14 +1,13 @@
 -- Bytes hold a memory at the module's locations: what they hold is near to it, and a step that keeps nearness is a step of the bytes.
 use Prim.Native.Nat.{ℕ, zero, suc, _<_, _≤_}
-use mathlib.Core.Path.{_≡_, refl, sym, _∙_, ap}
+use mathlib.Core.Path.{_≡_, _∙_, ap}
 use mathlib.Core.List.{List}
 use native.Mathlib.Omega.{arith}
-use lib.ListN.{length, getD}
 use Rattle.model.specs.Module.{Module, At}
 use Rattle.model.specs.Machine.{Memory, fetch}
 use Rattle.model.proofs.Machine.{Near}
-use Rattle.memory.specs.Memory.{blank, place, memoryOf, written, within, held}
-use Rattle.memory.proofs.Written.{Place, Agree, written-at, written-here, written-same, written-over, fetch-bytes}
+use Rattle.memory.specs.Memory.{blank, memoryOf, within, held}
+use Rattle.memory.proofs.Written.{Agree, written-at, written-here, written-same, written-over, fetch-bytes}
 use Rattle.memory.proofs.Regions.{within-true, within-test}
 
 pub agree-near : (m : Module) (w u : Memory) → Near m w u → Agree (within (m .processors) (m .slots)) w u

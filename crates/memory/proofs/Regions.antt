@@ -1,6 +1,6 @@
 -- How the regions of the memory that loops write grow: location by location, processor by processor.
-use Prim.Native.Nat.{ℕ, _+_, _<_, _≤_}
-use mathlib.Core.Path.{_≡_, refl, sym, _∙_, ap}
+use Prim.Native.Nat.{ℕ, _+_, _<_}
+use mathlib.Core.Path.{_≡_, refl}
 use mathlib.Core.Bool.{Bool, true, false, false≢true}
 use native.Mathlib.Omega.{arith}
 use lib.Dec.{eqb, ltb}

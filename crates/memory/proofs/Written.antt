@@ -1,20 +1,19 @@
 -- Laws of `written`: what stands at a place after a memory is written, and lists that are so written. The idea: every byte has one
 -- processor, part and location.
-use Prim.Native.Nat.{ℕ, zero, suc, _+_, _*_, _/_, _%_, _<_, _≤_}
+use Prim.Native.Nat.{ℕ, zero, suc, _/_, _%_, _<_}
 use mathlib.Core.Path.{_≡_, refl, sym, subst, _∙_, ap}
 use mathlib.Core.Bool.{Bool, true, false}
 use mathlib.Core.List.{List}
 use native.Mathlib.Omega.{arith}
-use lib.Dec.{eqb, ltb}
+use lib.Dec.{ltb}
 use lib.ListN.{length, getD, set}
 use lib.Seq.{getD-set-same, getD-set-other}
 use borrow.Author.Tests.{lt-ltb, ltb-true, ltb-false}
 use Rattle.logic.specs.Test.{_and_}
 use Rattle.logic.specs.Choice.{if_then_else_}
-use Rattle.logic.specs.Listed.{listed}
-use Rattle.logic.proofs.Listed.{listed-length, listed-at, is-listed, same-elements}
+use Rattle.logic.proofs.Listed.{listed-length, listed-at, is-listed}
 use Rattle.model.specs.Machine.{Memory, fetch}
-use Rattle.memory.specs.Memory.{memoryLength, blank, place, memoryOf, writtenAt, written, within, held, MemoryBytes}
+use Rattle.memory.specs.Memory.{memoryLength, blank, place, memoryOf, writtenAt, written, MemoryBytes}
 
 -- a processor, a part and a location of the memory
 pub record Place (p part k : ℕ) : Type 0 where

@@ -1,34 +1,32 @@
 -- Demands 2 and 3 for accepted files. Demand 3 is for any buffers whose calls meet their contracts (`Traces`), and here for the session
 -- over the machine itself, from the opening, by folding its outcomes over the list of calls.
 use Prim.Native.Nat.{ℕ, zero, suc, _≤_}
-use mathlib.Core.Path.{_≡_, refl, sym, _∙_, ap}
+use mathlib.Core.Path.{_≡_, refl, sym, ap}
 use mathlib.Core.Bool.{Bool, true, false, false≢true}
 use mathlib.Core.List.{List, [], _∷_}
 use native.Mathlib.Omega.{arith}
-use lib.Dec.{eqb}
-use Rattle.logic.specs.Choice.{if_then_else_}
 use Rattle.fields.specs.Text.{lineText}
-use Rattle.model.specs.Refusal.{Check, pass, fail, first}
+use Rattle.model.specs.Refusal.{pass}
 use Rattle.model.specs.Files.{Files}
 use Rattle.model.specs.Network.{Network, Signal, isSignal}
-use Rattle.model.specs.Netlist.{network, netHeader, netSignal, netSurplus, netChains, netCheck, netSize}
+use Rattle.model.specs.Netlist.{network, netSurplus, netChains, netCheck}
 use Rattle.model.specs.Value.{start, Follows, VAL}
 use Rattle.model.specs.Module.{Module, At}
 use Rattle.model.specs.Machine.{Memory, opening, after}
 use Rattle.model.specs.Stimulus.{held, endTime}
-use Rattle.model.specs.Acceptance.{networkOf, scheduleOf, givenOf, fileCheck, Accepted}
+use Rattle.model.specs.Acceptance.{networkOf, scheduleOf, givenOf, Accepted}
 use Rattle.model.specs.Session.{lockstep, Head, fresh, Lengths, Lent, Answer, Outcome, outcome}
 use Rattle.model.specs.Listing.{valueAt, joined, listedFirst, listedChange, listedCycle, listingOf, listing, printedFor, printed}
 use Rattle.model.specs.Demands.{Demand2, Places, Working, Trace, end, next, Demand3}
-use Rattle.model.proofs.Refusals.{first-left, first-right}
+use Rattle.model.proofs.Refusals.{first-right}
 use Rattle.model.proofs.Conditions.{Formed, Acyclic, Scheduled}
 use Rattle.model.proofs.Chains.{chains-pass, signal-true, signal-test}
 use Rattle.model.proofs.Value.{VAL-follows, VAL-unique}
 use Rattle.model.proofs.Accepted.{net-accepted, mod-accepted, net-formed, net-size, mod-scheduled}
 use Rattle.model.proofs.Machine.{Near, near-refl}
-use Rattle.model.proofs.Keeping.{Kept, kept-places, kept-near, kept-opening, machine-holds-VAL, keeps}
+use Rattle.model.proofs.Keeping.{kept-places, kept-near, kept-opening, machine-holds-VAL, keeps}
 use Rattle.model.proofs.Session.{Like}
-use Rattle.model.proofs.Traces.{Met, InStep, demand-3}
+use Rattle.model.proofs.Traces.{Met, demand-3}
 
 net-acyclic : (limit : ℕ) (net : List ℕ) → netCheck limit net ≡ pass → Acyclic (network net)
 unfolding netCheck

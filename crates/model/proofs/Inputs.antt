@@ -1,6 +1,6 @@
 -- Each cycle takes each input as last set before it, or as at cycle 0: the values in hand are those last set, and a run gives each of
 -- its cycles a copy of the values in hand as the run found them.
-use Prim.Native.Nat.{ℕ, zero, suc, _+_}
+use Prim.Native.Nat.{ℕ, zero, suc}
 use mathlib.Core.Path.{_≡_, refl, _∙_, ap}
 use mathlib.Core.Bool.{Bool, true, false}
 use mathlib.Core.List.{List, [], _∷_, _++_}

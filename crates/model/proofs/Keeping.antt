@@ -1,9 +1,9 @@
 -- After every cycle the lockstep machine holds VAL at the place of every signal: it keeps step with the plain session's rows.
-use Prim.Native.Nat.{ℕ, _≤_}
+use Prim.Native.Nat.{ℕ}
 use mathlib.Core.Path.{_≡_, refl, sym, _∙_}
 use mathlib.Core.List.{List, [], _∷_}
-use Rattle.model.specs.Network.{Network, Signal, input}
-use Rattle.model.specs.Value.{Step, start, next, VAL}
+use Rattle.model.specs.Network.{Network, Signal}
+use Rattle.model.specs.Value.{Step, start, VAL}
 use Rattle.model.specs.Module.{Module, At}
 use Rattle.model.specs.Machine.{Memory, cycle, opening, after}
 use Rattle.model.specs.Session.{plain, lockstep}

@@ -2,7 +2,7 @@
 -- It answers the cycles done and whether it stopped; stopped is true exactly if its last cycle done shows a watched value. Run 0 does
 -- none and isn't stopped."
 use Prim.Native.Nat.{ℕ, zero, suc, _<_, _≤_}
-use mathlib.Core.Path.{_≡_, refl, sym, _∙_, ap, subst}
+use mathlib.Core.Path.{_≡_, refl, sym, _∙_, ap}
 use mathlib.Core.Bool.{Bool, true, false, false≢true}
 use native.Mathlib.Omega.{arith}
 use Rattle.model.specs.Session.{Run, unlessStopped, runs, ticks}

@@ -1,16 +1,13 @@
 -- Two engines that keep step answer every call alike. The idea: a relation between their states that a cycle keeps and under which
 -- they read the same values; then runs stop together, and calls leave related sessions.
-use Prim.Native.Nat.{ℕ, zero, suc, _+_, _≤_}
+use Prim.Native.Nat.{ℕ, zero, suc}
 use mathlib.Core.Path.{_≡_, refl, sym, _∙_, ap, subst}
 use mathlib.Core.Bool.{Bool, true, false}
-use mathlib.Core.List.{List, [], _∷_}
-use native.Mathlib.Omega.{arith}
 use lib.Dec.{eqb, leb}
-use Rattle.logic.specs.Test.{_and_}
 use Rattle.logic.specs.Choice.{if_then_else_}
-use Rattle.model.specs.Refusal.{Check, pass, fail, first, unless}
-use Rattle.model.specs.Network.{Network, Signal, input, isSignal}
-use Rattle.model.specs.Session.{Engine, Watch, watched, Head, Call, set, watch, read, run, Lengths, Lent, Answer, done, value, ran, refused, Run, unlessStopped, runs, ticks, replaced, Outcome, sameLengths, callCheck, lentCheck, running, perform, meet, outcome}
+use Rattle.model.specs.Refusal.{Check, pass, fail, unless}
+use Rattle.model.specs.Network.{Network, Signal, isSignal}
+use Rattle.model.specs.Session.{Engine, watched, Head, Call, set, watch, read, run, Lengths, Lent, value, Run, unlessStopped, runs, ticks, replaced, Outcome, sameLengths, callCheck, lentCheck, running, perform, meet, outcome}
 use Rattle.model.proofs.Chains.{signal-true}
 use Rattle.model.proofs.Value.{SameInputs}
 use Rattle.model.proofs.Refusals.{first-left, first-right, unless-true}

@@ -1,9 +1,9 @@
 -- Demand 3 over any trace of calls: what the calls' contracts give of each call, on the buffers as the last one left them, gives the
 -- claim of the list. The idea: heads that are alike and a memory that keeps step with the plain session's rows, call after call.
-use Prim.Native.Nat.{ℕ, zero, suc, _+_, _≤_}
-use mathlib.Core.Path.{_≡_, refl, sym, _∙_, ap}
+use Prim.Native.Nat.{ℕ, zero, suc, _+_}
+use mathlib.Core.Path.{_≡_, _∙_}
 use mathlib.Core.Bool.{Bool, true, false}
-use mathlib.Core.List.{List, [], _∷_}
+use mathlib.Core.List.{List, _∷_}
 use native.Mathlib.Omega.{arith}
 use lib.ListN.{length}
 use Rattle.model.specs.Refusal.{Check, pass, fail}
@@ -11,7 +11,7 @@ use Rattle.model.specs.Network.{Network, Signal}
 use Rattle.model.specs.Value.{VAL}
 use Rattle.model.specs.Module.{Module}
 use Rattle.model.specs.Machine.{Memory, cycle}
-use Rattle.model.specs.Session.{Engine, plain, lockstep, watched, Head, Call, set, watch, read, run, Lengths, Lent, Answer, Run, unlessStopped, runs, ticks, Outcome, lentCheck, running, perform, meet, outcome}
+use Rattle.model.specs.Session.{plain, lockstep, watched, Head, Call, set, watch, read, run, Lengths, Lent, Answer, Run, unlessStopped, runs, Outcome, lentCheck, running, perform, meet, outcome}
 use Rattle.model.specs.Demands.{Places, Working, Trace, end, next, Agrees, Inside, Demand3}
 use Rattle.model.proofs.Session.{Like, like-trans, KeepStep, outcome-alike, ticks-alike}
 

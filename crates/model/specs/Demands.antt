@@ -1,5 +1,5 @@
 -- Demands 2 and 3 of the request, to be held against its sentences.
-use Prim.Native.Nat.{ℕ, zero, suc, _≤_}
+use Prim.Native.Nat.{ℕ, _≤_}
 use mathlib.Core.Path.{_≡_}
 use mathlib.Core.List.{List, [], _∷_}
 use lib.ListN.{length}
@@ -11,7 +11,7 @@ use Rattle.model.specs.Module.{Module, At}
 use Rattle.model.specs.Machine.{Memory, cycle}
 use Rattle.model.specs.Stimulus.{held, endTime}
 use Rattle.model.specs.Acceptance.{networkOf, givenOf, fileCheck, Accepted}
-use Rattle.model.specs.Session.{Engine, plain, Head, Lengths, Lent, Answer, Outcome, outcome, ticks, cyclesDone}
+use Rattle.model.specs.Session.{plain, Head, Lengths, Lent, Answer, Outcome, outcome, ticks, cyclesDone}
 use Rattle.model.specs.Listing.{listingOf, refusalLine}
 
 -- Demand 2, of what is printed for any files.

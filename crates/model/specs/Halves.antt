@@ -1,5 +1,5 @@
 -- The two halves by number, and the roles that they have in a cycle: cycle t stores half t % 2 and reads the other as the earlier one.
-use Prim.Native.Nat.{ℕ, zero, suc, _+_, _%_}
+use Prim.Native.Nat.{ℕ, _+_, _%_}
 use lib.Dec.{eqb}
 use Rattle.logic.specs.Choice.{if_then_else_}
 use Rattle.model.specs.Network.{Network}

@@ -1,13 +1,11 @@
 -- The listing (01, Listing, whole), and all that the program prints.
 use Prim.Native.Nat.{ℕ, zero, suc}
-use mathlib.Core.Bool.{Bool}
 use mathlib.Core.List.{List, [], _∷_, _++_}
 use lib.Dec.{eqb}
 use Rattle.logic.specs.Choice.{if_then_else_}
 use Rattle.fields.specs.Text.{lineText}
 use Rattle.model.specs.Refusal.{Check, pass, fail}
 use Rattle.model.specs.Files.{Files}
-use Rattle.model.specs.Network.{Network}
 use Rattle.model.specs.Value.{VAL, history}
 use Rattle.model.specs.Stimulus.{held, endTime}
 use Rattle.model.specs.Acceptance.{networkOf, givenOf, fileCheck}

@@ -1,12 +1,12 @@
 -- The lockstep machine (01, One cycle of the machine), for every module, accepted or not.
 use Prim.Native.Nat.{ℕ, zero, suc}
-use mathlib.Core.Bool.{Bool, true, false, not}
+use mathlib.Core.Bool.{Bool, not}
 use mathlib.Core.List.{List, [], _∷_}
 use lib.Dec.{eqb}
 use Rattle.logic.specs.Choice.{if_then_else_}
 use Rattle.model.specs.Network.{Network, input}
 use Rattle.model.specs.Value.{valueOf}
-use Rattle.model.specs.Module.{Module, localEarlier, localPresent, switchEarlier, switchPresent, noSender, received, sentSignal}
+use Rattle.model.specs.Module.{Module, localEarlier, localPresent, switchEarlier, switchPresent, received, sentSignal}
 
 -- the local and the switch memory, by processor and location: the half that the cycle before stored, and the one that this cycle stores
 pub record Memory : Type 0 where

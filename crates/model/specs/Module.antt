@@ -1,9 +1,9 @@
 -- A module: which signal each processor has in each slot, what each operand reads, and the switch (01, One cycle of the machine).
-use Prim.Native.Nat.{ℕ, zero, suc, _+_, _*_, _≤_, _<_}
+use Prim.Native.Nat.{ℕ, _+_, _≤_, _<_}
 use mathlib.Core.Path.{_≡_}
 use mathlib.Core.Bool.{Bool, not}
 use mathlib.Core.Logic.{_⊎_}
-use lib.Dec.{eqb, ltb, leb}
+use lib.Dec.{eqb, ltb}
 use Rattle.logic.specs.Test.{_and_, _or_, one, total}
 use Rattle.logic.specs.Choice.{if_then_else_}
 use Rattle.model.specs.Network.{Network, input, unitDelay, rankOrder}

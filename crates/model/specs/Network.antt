@@ -1,8 +1,8 @@
 -- A network of signals (01, Values and gates): "A signal is an external input, a unit-delay gate or a rank-order gate."
-use Prim.Native.Nat.{ℕ, zero, suc, _≤_, _<_}
+use Prim.Native.Nat.{ℕ, _≤_, _<_}
 use mathlib.Core.Path.{_≡_}
 use mathlib.Core.Bool.{Bool}
-use lib.Dec.{eqb, leb}
+use lib.Dec.{leb}
 use Rattle.logic.specs.Test.{_and_}
 
 -- the kinds, as NET writes them

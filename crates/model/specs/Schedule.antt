@@ -1,5 +1,5 @@
 -- MOD (01, Files): its module, at fixed places of the bytes, and its refusals 20 to 25 in their order.
-use Prim.Native.Nat.{ℕ, zero, suc, _+_, _*_, _/_, _%_}
+use Prim.Native.Nat.{ℕ, suc, _+_, _*_, _/_, _%_}
 use mathlib.Core.Bool.{Bool, not}
 use mathlib.Core.List.{List}
 use lib.Dec.{eqb, leb, ltb}

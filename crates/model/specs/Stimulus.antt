@@ -1,7 +1,7 @@
 -- STIM (01, Files): "3 fields: time, signal, value, strictly rising by time and then signal", the end line T, 0, 0, its refusals 30 to
 -- 32 in their order, and the values that it gives.
 use Prim.Native.Nat.{ℕ, zero, suc, _+_, _*_}
-use mathlib.Core.Bool.{Bool, true, false, not}
+use mathlib.Core.Bool.{Bool, true, false}
 use mathlib.Core.List.{List}
 use lib.Dec.{eqb, leb, ltb}
 use lib.ListN.{length}
@@ -10,7 +10,7 @@ use Rattle.logic.specs.Choice.{if_then_else_}
 use Rattle.gates.specs.Value.{U}
 use Rattle.fields.specs.Field.{numberAt}
 use Rattle.fields.specs.Line.{isLineAt}
-use Rattle.model.specs.Refusal.{Check, pass, first, unless}
+use Rattle.model.specs.Refusal.{Check, first, unless}
 use Rattle.model.specs.Network.{Network, input, isSignal}
 
 -- a line has 19 bytes; line 1 has index 0

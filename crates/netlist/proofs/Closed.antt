@@ -4,17 +4,16 @@ use mathlib.Core.Path.{_≡_, refl, sym, _∙_, ap, subst}
 use mathlib.Core.Bool.{Bool, true, false}
 use mathlib.Core.List.{List}
 use native.Mathlib.Omega.{arith}
-use native.Mathlib.Numerals.{add-one}
 use native.Mathlib.Decide.{ℕ-discrete, decLe}
 use lib.Dec.{eqb}
-use lib.ListN.{length, getD, set, replicate, length-set, length-replicate, getD-replicate, List·getD-eq-default}
+use lib.ListN.{length, getD, set, replicate, length-set, length-replicate}
 use lib.Seq.{getD-set-same, getD-set-other}
-use borrow.Author.Tests.{eq-eqb, ne-eqb, eqb-true, eqb-false}
+use borrow.Author.Tests.{eq-eqb, eqb-true}
 use Rattle.logic.specs.Test.{one}
 use Rattle.logic.specs.Choice.{if_then_else_}
-use Rattle.chains.specs.Graph.{Edge, Path, Loops, Entries, Graph}
-use Rattle.model.specs.Network.{Network, Signal, rankOrder, Feeds, Chain, OnClosedChain}
-use Rattle.model.specs.Netlist.{netField, netSize, network}
+use Rattle.chains.specs.Graph.{Edge, Path, Graph}
+use Rattle.model.specs.Network.{Signal, rankOrder, Feeds, Chain}
+use Rattle.model.specs.Netlist.{netField, network}
 use Rattle.netlist.specs.Graph.{Lines, followTo, feederOf, edgesTo}
 
 -- a list of stores at rising places: what stands where it was stored, and elsewhere

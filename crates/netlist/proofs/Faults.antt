@@ -1,14 +1,13 @@
 -- The lines of the signals: what the first fault answers, and that a line without fault passes.
 use Prim.Native.Nat.{ℕ, suc, _+_, _-_, _*_, _<_, _≤_}
-use mathlib.Core.Path.{_≡_, refl, sym, _∙_, ap, subst}
+use mathlib.Core.Path.{_≡_, sym, _∙_, ap, subst}
 use mathlib.Core.Bool.{Bool, true, false}
 use mathlib.Core.List.{List}
 use native.Mathlib.Omega.{arith}
 use lib.Dec.{eqb}
-use lib.ListN.{length, getD, List·getD-eq-default}
-use borrow.Author.Tests.{ne-eqb}
+use lib.ListN.{getD}
 use Rattle.logic.specs.Test.{_and_, all}
-use Rattle.logic.proofs.Tests.{and-true, all-fails, all-ends}
+use Rattle.logic.proofs.Tests.{all-fails, all-ends}
 use Rattle.fields.specs.Field.{isFieldAt}
 use Rattle.fields.specs.Line.{isLineAt, newline}
 use Rattle.fields.specs.Reading.{readField}
@@ -28,10 +27,6 @@ refused check size r number returned e q = record { refusal = e ∙ sym q; accep
 
 pub passed : (check : Check) (size n : ℕ) → check ≡ pass → n ≡ size → Judged check size (Accepted n)
 passed check size n q e = record { refusal = sym q; accepted = λ m p. cc }
-
--- nothing stands past the end
-pub past-end : (net : List ℕ) (at : ℕ) → length net ≤ at → eqb (getD net at 0) newline ≡ false
-past-end net at h = ne-eqb (getD net at 0) newline (λ (e : getD net at 0 ≡ newline). omega (arith, List·getD-eq-default net 0 h))
 
 -- a line of twelve fields whose first ones were read
 module _ (net : List ℕ) (line column at : ℕ) (here : at ≡ 73 * line + 6 * column) where

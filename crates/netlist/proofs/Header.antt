@@ -1,10 +1,9 @@
 -- Line 1 and the line after the last, decided by the numbers that the code has read.
 use Prim.Native.Nat.{ℕ, _+_, _*_, _<_, _≤_}
-use mathlib.Core.Path.{_≡_, refl, sym, _∙_, ap}
+use mathlib.Core.Path.{_≡_, refl}
 use mathlib.Core.Bool.{Bool, true, false}
 use mathlib.Core.List.{List}
 use native.Mathlib.Omega.{arith}
-use lib.Dec.{eqb, leb}
 use lib.ListN.{length}
 use borrow.Author.Tests.{eq-eqb, ne-eqb, le-leb, lt-leb}
 use Rattle.logic.specs.Test.{_and_}
@@ -13,7 +12,7 @@ use Rattle.fields.specs.Line.{isLineAt, lineLength}
 use Rattle.fields.specs.Reading.{readLine}
 use Rattle.fields.specs.declared.Line.{Line}
 use Rattle.fields.specs.declared.Line.the-variants.{Next, Broken}
-use Rattle.model.specs.Refusal.{Check, pass, fail, first, unless}
+use Rattle.model.specs.Refusal.{pass, fail, first, unless}
 use Rattle.model.specs.Netlist.{netField, netSize, tenZeros, netHeader, netSurplus}
 
 -- the answer of reading a line tells its form

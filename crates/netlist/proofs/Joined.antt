@@ -1,5 +1,5 @@
 -- The stages of NET's check in their order: the first that refuses answers, and where none does the file is accepted.
-use Prim.Native.Nat.{ℕ, zero, suc, _*_, _≤_, _<_}
+use Prim.Native.Nat.{ℕ, zero, suc, _*_, _≤_}
 use mathlib.Core.Path.{_≡_, refl, sym, _∙_, ap, subst}
 use mathlib.Core.Bool.{true}
 use mathlib.Core.List.{List, [], _∷_}
@@ -10,13 +10,13 @@ use types.Run.{OneOf}
 use borrow.Author.Tests.{leb-true}
 use Rattle.logic.proofs.Tests.{and-left, and-right}
 use Rattle.chains.specs.Graph.{FirstLoop}
-use Rattle.model.specs.Refusal.{Check, pass, fail, first, unless, firstBelow}
+use Rattle.model.specs.Refusal.{Check, pass, fail, firstBelow}
 use Rattle.fields.specs.Line.{isLineAt}
-use Rattle.model.specs.Network.{Network, Signal, OnClosedChain}
+use Rattle.model.specs.Network.{Network, Signal}
 use Rattle.model.specs.Network as Network
 use Rattle.model.specs.Netlist.{netSize, network, netHeader, netSignal, netSurplus, netChains, netCheck}
 use Rattle.model.proofs.Refusals.{first-second, first-stays, below-pass, first-left, first-right, unless-true}
-use Rattle.model.proofs.Chains.{Smallest, chains-acyclic, chains-smallest}
+use Rattle.model.proofs.Chains.{chains-acyclic, chains-smallest}
 use Rattle.model.proofs.Accepted.{signal-right}
 use Rattle.netlist.specs.Answer.{netRefusal, Judged}
 use Rattle.netlist.specs.Graph.{Lines}

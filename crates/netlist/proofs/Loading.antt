@@ -1,20 +1,15 @@
 -- The stores by which the graph of the rank-order gates is loaded, and what stands in it.
-use Prim.Native.Nat.{ℕ, zero, suc, _+_, _*_, _/_, _%_, _<_, _≤_}
-use mathlib.Core.Path.{_≡_, refl, sym, _∙_, ap, subst}
-use mathlib.Core.Bool.{Bool, true, false}
+use Prim.Native.Nat.{ℕ, _+_, _/_, _%_, _≤_}
+use mathlib.Core.Path.{_≡_, sym, _∙_, ap}
 use mathlib.Core.List.{List}
 use native.Mathlib.Omega.{arith}
 use native.Mathlib.Numerals.{add-one}
-use native.Mathlib.Decide.{ℕ-discrete}
 use lib.Dec.{eqb}
-use lib.ListN.{length, getD, set, length-set}
-use lib.Seq.{getD-set-same, getD-set-other}
-use borrow.Author.Tests.{eq-eqb, ne-eqb, eqb-true, eqb-false}
+use lib.ListN.{getD, set}
+use borrow.Author.Tests.{eq-eqb, ne-eqb}
 use Rattle.logic.specs.Test.{one}
-use Rattle.logic.specs.Choice.{if_then_else_}
-use Rattle.model.specs.Network.{rankOrder}
 use Rattle.model.specs.Netlist.{netField}
-use Rattle.netlist.specs.Graph.{Lines, followTo, feederOf, edgesTo}
+use Rattle.netlist.specs.Graph.{followTo, feederOf, edgesTo}
 
 module _ (net l : List ℕ) where
   pub follow-more : (follow : List ℕ) (k f v : ℕ) → follow ≡ followTo net l k → f ≡ netField net (k + 1) 0 → v ≡ one (eqb f 3)

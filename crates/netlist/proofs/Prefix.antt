@@ -7,16 +7,16 @@ use native.Mathlib.Omega.{arith}
 use lib.Dec.{eqb, leb}
 use lib.ListN.{length, take, length-take}
 use borrow.Author.Tests.{le-leb, lt-leb, leb-true, leb-false}
-use Rattle.logic.specs.Test.{_and_, _or_, all}
+use Rattle.logic.specs.Test.{all}
 use Rattle.fields.specs.Line.{isLineAt}
 use Rattle.fields.proofs.Taken.{number-take, line-take}
-use Rattle.model.specs.Refusal.{Check, pass, fail, first, unless, firstBelow}
+use Rattle.model.specs.Refusal.{Check, pass, fail, firstBelow}
 use Rattle.gates.specs.Translation.{isTranslation}
-use Rattle.model.specs.Network.{Network, Feeds, Chain, one, more}
+use Rattle.model.specs.Network.{Feeds, Chain, one, more}
 use Rattle.model.proofs.Refusals.{first-stays}
 use Rattle.model.proofs.Chains.{chains-pass, chains-acyclic, chains-fail, chains-smallest}
 use Rattle.netlist.proofs.Joined.{size-small}
-use Rattle.model.specs.Netlist.{netLine, netField, netSize, tenZeros, netHeader, inputLayout, gateLayout, sourceRight, sourcesRight, netSignal, netSurplus, network, onClosedChain, netChains, netCheck}
+use Rattle.model.specs.Netlist.{netLine, netField, netSize, tenZeros, netHeader, inputLayout, gateLayout, sourceRight, sourcesRight, netSignal, netSurplus, network, netChains, netCheck}
 
 all-same : (n : ℕ) (p q : ℕ → Bool) → ((k : ℕ) → k < n → p k ≡ q k) → all n p ≡ all n q
 unfolding all

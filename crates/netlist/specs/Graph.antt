@@ -4,7 +4,7 @@ use mathlib.Core.Path.{_≡_}
 use mathlib.Core.Bool.{true}
 use mathlib.Core.List.{List}
 use lib.Dec.{eqb}
-use lib.ListN.{length, getD, set}
+use lib.ListN.{getD, set}
 use Rattle.logic.specs.Test.{one}
 use Rattle.logic.specs.Choice.{if_then_else_}
 use Rattle.fields.specs.Line.{isLineAt}

@@ -3,11 +3,11 @@
 ghost use mathlib.Core.Path.{_≡_};
 ghost use mathlib.Core.Bool.{true};
 ghost use Prim.Native.Nat.{suc, _+_, _*_, _<_, _≤_};
-ghost use lib.Dec.{eqb, leb};
+ghost use lib.Dec.{eqb};
 ghost use Rattle.logic.specs.Test.{_and_, _or_, all, one};
 ghost use Rattle.gates.specs.Translation.{isTranslation};
-ghost use lib.ListN.{length, getD};
-ghost use Rattle.fields.specs.Line.{isLineAt, newline};
+ghost use lib.ListN.{length};
+ghost use Rattle.fields.specs.Line.{isLineAt};
 ghost use Rattle.model.specs.Refusal.{firstBelow};
 ghost use Rattle.netlist.specs.Answer.{answerOf, Judged};
 ghost use Rattle.netlist.specs.Graph.{Lines, followTo, feederOf, edgesTo};
@@ -15,6 +15,7 @@ ghost use Rattle.model.specs.Netlist.{netField, netSize, tenZeros, netHeader, i
 use chains::first_loop;
 use fields::Field;
 use fields::Line;
+use fields::ends_line;
 use fields::number_at;
 use fields::read_field;
 use fields::read_line;
@@ -178,16 +179,6 @@ fn check_surplus(net: &[u8], size: u16) -> NetAnswer
         return NetAnswer::Accepted(size);
     }
     NetAnswer::Misformed(size + 2)
-}
-
-// Byte 10 stands at a place.
-fn ends_line(net: &[u8], at: usize) -> bool
-    ensures { λ r. ⌜ r ≡ eqb (getD (now (net .entry)) at 0) newline ⌝ }
-{
-    if net.len() <= at {
-        return false;
-    }
-    net[at] == 10
 }
 
 // The answer for the first fault, the line's signal being given; 0 is none.

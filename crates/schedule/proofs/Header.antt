@@ -12,7 +12,6 @@ use Rattle.fields.specs.Field.{isFieldAt, numberAt}
 use Rattle.logic.specs.Choice.{if_then_else_}
 use Rattle.fields.specs.Line.{isLineAt, lineLength}
 use Rattle.fields.specs.Reading.{readLine}
-use Rattle.fields.specs.declared.Line.{Line}
 use Rattle.fields.specs.declared.Line.the-variants.{Next, Broken}
 use Rattle.model.specs.Refusal.{fail, first, unless}
 use Rattle.model.specs.Schedule.{modField, modProcessors, modSlots, modHeader}

@@ -6,5 +6,6 @@ pub mod Slots
 pub mod Told
 pub mod Named
 pub mod Sources
+pub mod Testing
 pub mod Stages
 pub mod Prefix

@@ -15,8 +15,7 @@ use Rattle.fields.specs.Field.{isFieldAt}
 use Rattle.fields.specs.Line.{isLineAt}
 use Rattle.model.specs.Refusal.{Check, fail, pass, first, unless, firstBelow}
 use Rattle.model.specs.Network.{Network}
-use Rattle.model.specs.Module.{operandRight}
-use Rattle.model.specs.Schedule.{modLine, modProcessors, modSlots, modIndex, moduleOf, locationLayout, operandLayout, sendLayout, senderLayout, lineLayout, modSlot, eachLine, modSurplus, operands}
+use Rattle.model.specs.Schedule.{modLine, modProcessors, modSlots, modIndex, moduleOf, locationLayout, operandLayout, sendLayout, senderLayout, lineLayout, modSlot, eachLine, modSurplus}
 use Rattle.model.proofs.Refusals.{below-pass, below-first, first-both}
 use Rattle.fields.specs.Reading.{readField}
 use Rattle.fields.specs.declared.Field.the-variants.{Number, Misformed}
@@ -148,57 +147,3 @@ pub below-same : (count : ℕ) (f g : ℕ → Check) → ((k : ℕ) → k < coun
 unfolding firstBelow
 below-same zero f g h = refl
 below-same (suc count) f g h = rw (below-same count f g (λ k l. h k (omega arith)), h count (omega arith))
-
--- a test of each line after the first, refused with the line
-abbrev pub lineTest : List ℕ → (ℕ → ℕ → Bool) → ℕ → ℕ → Check
-lineTest l right number k =
-    unless (right (k / modSlots l) (k % modSlots l)) number (modIndex l (k / modSlots l) (k % modSlots l) + 1)
-
-abbrev pub eachTest : List ℕ → (ℕ → ℕ → Bool) → ℕ → Check
-eachTest l right number = eachLine l (λ p i. unless (right p i) number (modIndex l p i + 1))
-
-module _ (l : List ℕ) (p c : ℕ) (sized : Sized l p c) (right : ℕ → ℕ → Bool) (number lines k : ℕ) (total : lines ≡ p * c)
-    (before : firstBelow k (lineTest l right number) ≡ pass) where
-  here : (r : Bool) → r ≡ right (k / c) (k % c) → right (k / modSlots l) (k % modSlots l) ≡ r
-  here r e = sym (e ∙ ap (λ (n : ℕ). right (k / n) (k % n)) (sized .slots))
-
-  pub test-stops : k < lines → (r : Bool) → r ≡ right (k / c) (k % c) → r ≡ false → eachTest l right number ≡ fail number (k + 2)
-  unfolding eachLine unless
-  test-stops low r e f =
-      let at : k + 1 + 1 ≡ k + 2 = omega arith in
-      let fails : lineTest l right number k ≡ fail number (k + 2) = rw (here r e ∙ f, line-index l k) (ap (fail number) at) in
-      below-stops (lineTest l right number) k before (modProcessors l * modSlots l) (omega (arith, line-total l p c sized)) fails
-
-  pub test-goes-on : (r : Bool) → r ≡ right (k / c) (k % c) → r ≡ true → firstBelow (k + 1) (lineTest l right number) ≡ pass
-  unfolding unless
-  test-goes-on r e f = below-goes-on (lineTest l right number) k before (rw (here r e ∙ f))
-
-  pub tests-pass : k ≤ lines → lines ≤ k → eachTest l right number ≡ pass
-  unfolding eachLine
-  tests-pass low high =
-      let e : k ≡ modProcessors l * modSlots l = omega (arith, line-total l p c sized) in
-      rw (← e) before
-
--- a line's four operands, each refused alike
-pub four-tests : (test : ℕ → Bool) (number returned : ℕ) → firstBelow 4 (λ j. unless (test j) number returned) ≡ unless (all 4 test) number returned
-unfolding firstBelow all first unless _and_
-four-tests test number returned = go (test 0) (test 1) (test 2) (test 3)
-  where
-    go : (a b c d : Bool)
-        → first (first (first (first pass (unless a number returned)) (unless b number returned)) (unless c number returned)) (unless d number returned)
-        ≡ unless ((((true and a) and b) and c) and d) number returned
-    go true true true d = refl
-    go true true false d = refl
-    go true false c d = refl
-    go false b c d = refl
-
-pub operands-tests : (n : Network) (l : List ℕ) → operands n l ≡ eachTest l (λ p i. all 4 (operandRight n (moduleOf l) p i)) 23
-unfolding operands eachLine
-operands-tests n l =
-    below-same (modProcessors l * modSlots l)
-    (λ k.
-    firstBelow 4
-    (λ j.
-    unless (operandRight n (moduleOf l) (k / modSlots l) (k % modSlots l) j) 23 (modIndex l (k / modSlots l) (k % modSlots l) + 1)))
-    (lineTest l (λ p i. all 4 (operandRight n (moduleOf l) p i)) 23)
-    (λ k h. four-tests (operandRight n (moduleOf l) (k / modSlots l) (k % modSlots l)) 23 (modIndex l (k / modSlots l) (k % modSlots l) + 1))

@@ -7,8 +7,8 @@ use mathlib.Core.Logic.{_⊎_, inl, inr, ⊎-elim}
 use native.Mathlib.Omega.{arith}
 use lib.Dec.{eqb}
 use borrow.Author.Tests.{eq-eqb, ne-eqb, lt-ltb, le-ltb}
-use Rattle.logic.specs.Test.{_and_, _or_}
-use Rattle.model.specs.Module.{Module, noPart, noSender, received, sendRight, receptionRight}
+use Rattle.logic.specs.Test.{_or_}
+use Rattle.model.specs.Module.{Module, noPart, noSender, sendRight, receptionRight}
 use Rattle.model.specs.Schedule.{modProcessors, modField, modIndex, moduleOf}
 use Rattle.operands.specs.Operand.{operandOf, partOf, locationOf}
 use Rattle.operands.specs.declared.Operand.{Operand}
@@ -104,12 +104,6 @@ module _ (m : Module) (p i x : ℕ) (from : x ≡ m .sender p i) where
   reception-none e = sym (rw (eq-eqb x 99 e) refl) ∙ by-sender
 
   module _ (some : x ≡ 99 → ⊥) (a : Operand) (h : Has a (m .sendPart x i) (m .sendLocation x i)) where
-    by-part : not (eqb (partOf a) noPart) ≡ receptionRight m p i
+    pub reception-sent : not (eqb (partOf a) noPart) ≡ receptionRight m p i
     unfolding right-from _or_
-    by-part = sym (rw (ne-eqb x 99 some, h .part-is) refl) ∙ by-sender
-
-    pub reception-right : (a ≡ None → ⊥) → true ≡ receptionRight m p i
-    reception-right d = ap not (none-apart a d) ∙ by-part
-
-    pub reception-wrong : a ≡ None → false ≡ receptionRight m p i
-    reception-wrong e = sym (rw e refl) ∙ by-part
+    reception-sent = sym (rw (ne-eqb x 99 some, h .part-is) refl) ∙ by-sender

@@ -9,16 +9,15 @@ use lib.Dec.{eqb, leb}
 use lib.ListN.{length, take}
 use lib.Seq.{length-take-le, take-all}
 use borrow.Author.Tests.{leb-true, leb-false, lt-leb}
-use Rattle.logic.specs.Test.{_and_, all}
+use Rattle.logic.specs.Test.{all}
 use Rattle.fields.specs.Field.{numberAt}
 use Rattle.fields.specs.Line.{isLineAt}
 use Rattle.fields.proofs.Taken.{all-same, number-take, line-take}
-use Rattle.model.specs.Refusal.{Check, pass, fail, first, unless, firstBelow}
+use Rattle.model.specs.Refusal.{Check, pass, fail, first, unless}
 use Rattle.model.specs.Network.{Network}
-use Rattle.model.specs.Schedule.{modLine, modField, modProcessors, modSlots, modIndex, moduleOf, modHeader, modSlot, lineLayout, eachLine, modSurplus, modCheck}
+use Rattle.model.specs.Schedule.{modField, modProcessors, modSlots, modIndex, modHeader, modSlot, eachLine, modSurplus, modCheck}
 use Rattle.model.proofs.Refusals.{first-second, first-stays}
-use Rattle.schedule.specs.Answer.{Sized}
-use Rattle.schedule.specs.Layout.{lineAt, operandsAt, pairLaid, senderLaid}
+use Rattle.schedule.specs.Layout.{lineAt, operandsAt}
 use Rattle.schedule.proofs.Lines.{line-judged, line-index, below-same}
 use Rattle.schedule.proofs.Stages.{header-sized}
 

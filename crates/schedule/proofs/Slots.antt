@@ -1,12 +1,12 @@
 -- What the lines' check leaves: each line after the first is right (`SlotRight`), by processor and slot or by its number, and so are the
 -- fields that the later checks read.
-use Prim.Native.Nat.{ℕ, suc, _+_, _*_, _/_, _%_, _<_, _≤_}
+use Prim.Native.Nat.{ℕ, _+_, _*_, _/_, _%_, _<_, _≤_}
 use mathlib.Core.Path.{_≡_, ap, _∙_}
 use mathlib.Core.Bool.{true}
 use mathlib.Core.List.{List}
 use mathlib.Core.Logic.{⊎-elim}
 use native.Mathlib.Omega.{arith}
-use native.Mathlib.Nat.{suc-mul, mul-le-mul, div-lt-iff-lt-mul, mod-lt}
+use native.Mathlib.Nat.{div-lt-iff-lt-mul, mod-lt}
 use Rattle.fields.specs.Field.{isFieldAt, numberAt}
 use Rattle.fields.specs.Line.{isLineAt}
 use Rattle.model.specs.Schedule.{modLine, modField, modProcessors, modSlots, modIndex, moduleOf, modSlot, eachLine}
@@ -26,11 +26,6 @@ module _ (l : List ℕ) (p c : ℕ) (laid : Laid l p c) where
       slot-right (laid .network) l q i
       (at-pass l (modSlot (laid .network) l) (laid .lines) q i
       (record { processor = omega (arith, s .processors); slot = omega (arith, s .slots) }))
-
-  pub index-small : (q i : ℕ) → q < p → i < c → 1 + q * modSlots l + i ≤ 4096
-  index-small q i low-q low-i =
-      let s = laid .sized in
-      omega (arith, s .slots, s .slots-high, s .processors-high, suc-mul q (modSlots l), mul-le-mul {n₁ = suc q} {m₁ = modSlots l} {n₂ = 16} {m₂ = 256} (omega arith) (omega arith))
 
   -- by its number
   module _ (k : ℕ) (low : k < p * c) where

@@ -2,3 +2,4 @@ pub mod Answer
 pub mod Layout
 pub mod Counting
 pub mod Sent
+pub mod Testing

@@ -5,23 +5,24 @@ use fields::Line;
 use operands::Instruction;
 use operands::Operand;
 ghost use mathlib.Core.Path.{_≡_};
-ghost use mathlib.Core.Bool.{true, false};
+ghost use mathlib.Core.Bool.{true};
 ghost use Prim.Native.Nat.{ℕ, _+_, _*_, _/_, _%_, _<_, _≤_};
 ghost use lib.ListN.{length, getD};
 ghost use lib.Dec.{eqb};
 ghost use Rattle.logic.specs.Test.{all};
 ghost use Rattle.fields.specs.Field.{isFieldAt, numberAt};
-ghost use Rattle.fields.specs.Line.{isLineAt, newline};
+ghost use Rattle.fields.specs.Line.{isLineAt};
 ghost use Rattle.model.specs.Refusal.{pass};
 ghost use Rattle.model.specs.Network.{Network};
 ghost use Rattle.model.specs.Netlist.{netSize, network, netCheck};
 ghost use Rattle.model.specs.Module.{localEarlier, localPresent, switchEarlier, switchPresent, noPart, placements, sendRight, receptionRight, reads, operandRight};
-ghost use Rattle.model.specs.Schedule.{modProcessors, modSlots, modField, moduleOf, modHeader, modSlot, eachLine, modSurplus, placed, sending, receiving, operands, modCheck};
+ghost use Rattle.model.specs.Schedule.{modProcessors, modSlots, modField, moduleOf, modHeader, modSlot, eachLine, modSurplus, placed, modCheck};
 ghost use Rattle.schedule.specs.Answer.{Answers, Sized, Laid, SignalsWithin};
 ghost use Rattle.schedule.specs.Counting.{countedOnce};
 ghost use Rattle.operands.specs.Operand.{operandOf, partOf, locationOf};
 ghost use Rattle.operands.specs.Instruction.{operandNamed, sendNamed, instructionOf};
 ghost use Rattle.schedule.specs.Sent.{sentRight, wantedSend};
+ghost use Rattle.schedule.specs.Testing.{testRight, testAnswer, testCheck, moduleCheck};
 ghost use Rattle.schedule.specs.Layout.{pairLaid, pairAt, operandsAt, senderLaid, lineAt};
 
 // MOD accepted with P and C, or refused: with a line, and at 22 with a signal.
@@ -33,6 +34,13 @@ pub enum ModAnswer {
     Send(u16),
     Reception(u16),
     WrongOperand(u16),
+}
+
+// What is judged of every line by itself: 24, 25 and 23.
+enum Test {
+    Sends,
+    Receptions,
+    Operands,
 }
 
 // "twelve zeros": the rest of line 1.
@@ -184,16 +192,6 @@ fn slot_of(k: usize, slots: u16) -> u16
     (k % (slots as usize)) as u16
 }
 
-// Byte 10 stands at a place.
-fn ends_at(table: &[u8], at: usize) -> bool
-    ensures { λ r. ⌜ r ≡ eqb (getD (now (table .entry)) at 0) newline ⌝ }
-{
-    if table.len() <= at {
-        return false;
-    }
-    table[at] == 10
-}
-
 // The lines after the first, in their order: 20, then 21, with the first bad line.
 fn check_lines(table: &[u8], signals: u16, processors: u16, slots: u16) -> ModAnswer
     requires { ⌜ Sized (now table) processors slots ⌝ }
@@ -212,7 +210,7 @@ fn check_lines(table: &[u8], signals: u16, processors: u16, slots: u16) -> ModAn
             };
             column += 1;
         }
-        if !ends_at(table, at + 84) {
+        if !fields::ends_line(table, at + 84) {
             answer = ModAnswer::Misformed((k + 2) as u16);
             break 'lines;
         }
@@ -358,8 +356,7 @@ fn send_right(table: &[u8], processors: u16, slots: u16, processor: u16, slot: u
     requires { ⌜ (processor < processors) × (slot < slots) ⌝ }
     ensures { λ r. ⌜ r ≡ sendRight (moduleOf (now (table .entry))) processor slot ⌝ }
 {
-    let line = instruction_at(table, processors, slots, processor, slot);
-    let send = line.send;
+    let send = send_at(table, processors, slots, processor, slot);
     match send {
         Operand::LocalEarlier(k) => signal_at(table, processors, slots, processor, k as u16) != 0,
         Operand::LocalPresent(k) => {
@@ -374,58 +371,27 @@ fn send_right(table: &[u8], processors: u16, slots: u16, processor: u16, slot: u
     }
 }
 
+// "Part 9 with location 0 means none".
+fn is_none(a: Operand) -> bool
+    ensures { λ r. ⌜ r ≡ eqb (partOf a) noPart ⌝ }
+{
+    let Operand::None = a else {
+        return false;
+    };
+    true
+}
+
 // 25: it does not receive "from a processor that sends none in that slot".
 fn reception_right(table: &[u8], processors: u16, slots: u16, processor: u16, slot: u16) -> bool
     requires { ⌜ Laid (now table) processors slots ⌝ }
     requires { ⌜ (processor < processors) × (slot < slots) ⌝ }
     ensures { λ r. ⌜ r ≡ receptionRight (moduleOf (now (table .entry))) processor slot ⌝ }
 {
-    let line = instruction_at(table, processors, slots, processor, slot);
-    let sender = line.sender;
+    let sender = sender_at(table, processors, slots, processor, slot);
     if sender == 99 {
         return true;
     }
-    let send = send_at(table, processors, slots, sender as u16, slot);
-    let Operand::None = send else {
-        return true;
-    };
-    false
-}
-
-// 24, over all lines.
-fn check_sends(table: &[u8], processors: u16, slots: u16) -> ModAnswer
-    requires { ⌜ Laid (now table) processors slots ⌝ }
-    ensures { λ r. ⌜ Answers processors slots (sending (now (table .entry))) r ⌝ }
-{
-    let lines = line_count(processors, slots);
-    let mut k: usize = 0;
-    while k < lines {
-        let processor = processor_of(k, slots);
-        let slot = slot_of(k, slots);
-        if !send_right(table, processors, slots, processor, slot) {
-            return ModAnswer::Send((k + 2) as u16);
-        }
-        k += 1;
-    }
-    ModAnswer::Accepted(processors, slots)
-}
-
-// 25, over all lines.
-fn check_receptions(table: &[u8], processors: u16, slots: u16) -> ModAnswer
-    requires { ⌜ Laid (now table) processors slots ⌝ }
-    ensures { λ r. ⌜ Answers processors slots (receiving (now (table .entry))) r ⌝ }
-{
-    let lines = line_count(processors, slots);
-    let mut k: usize = 0;
-    while k < lines {
-        let processor = processor_of(k, slots);
-        let slot = slot_of(k, slots);
-        if !reception_right(table, processors, slots, processor, slot) {
-            return ModAnswer::Reception((k + 2) as u16);
-        }
-        k += 1;
-    }
-    ModAnswer::Accepted(processors, slots)
+    !is_none(send_at(table, processors, slots, sender as u16, slot))
 }
 
 // "Switch: look at the send into k": it is there, of the given part, and of the source.
@@ -631,15 +597,6 @@ fn reads_source(
     }
 }
 
-fn is_none(a: Operand) -> bool
-    ensures { λ r. ⌜ r ≡ eqb (partOf a) noPart ⌝ }
-{
-    let Operand::None = a else {
-        return false;
-    };
-    true
-}
-
 // 23: operand j of the line of a processor and a slot, where the signal and the operand are the line's.
 // "An operand whose source is 0, and all operands of inputs and empty slots, must be none."
 fn operand_right(
@@ -747,27 +704,84 @@ fn operands_right(
     )
 }
 
-// 23, over all lines.
-fn check_operands(net: &[u8], table: &[u8], processors: u16, slots: u16) -> ModAnswer
+// A line passes a test.
+fn line_right(
+    test: Test,
+    net: &[u8],
+    table: &[u8],
+    processors: u16,
+    slots: u16,
+    processor: u16,
+    slot: u16,
+) -> bool
     requires { ⌜ Laid (now table) processors slots ⌝ }
     requires { ⌜ netCheck 4096 (now net) ≡ pass ⌝ }
     requires { ⌜ SignalsWithin (now table) processors slots (netSize (now net)) ⌝ }
-    ensures { λ r. ⌜ Answers processors slots (operands (network (now (net .entry))) (now (table .entry))) r ⌝ }
+    requires { ⌜ (processor < processors) × (slot < slots) ⌝ }
+    ensures { λ r. ⌜ r ≡ testRight test (network (now (net .entry))) (moduleOf (now (table .entry))) processor slot ⌝ }
+{
+    match test {
+        Test::Sends => send_right(table, processors, slots, processor, slot),
+        Test::Receptions => reception_right(table, processors, slots, processor, slot),
+        Test::Operands => operands_right(net, table, processors, slots, processor, slot),
+    }
+}
+
+// The answer for a line that does not pass.
+fn refused_at(test: Test, line: u16) -> ModAnswer
+    ensures { λ r. ⌜ r ≡ testAnswer test line ⌝ }
+{
+    match test {
+        Test::Sends => ModAnswer::Send(line),
+        Test::Receptions => ModAnswer::Reception(line),
+        Test::Operands => ModAnswer::WrongOperand(line),
+    }
+}
+
+// A test over all lines.
+fn check_each(test: Test, net: &[u8], table: &[u8], processors: u16, slots: u16) -> ModAnswer
+    requires { ⌜ Laid (now table) processors slots ⌝ }
+    requires { ⌜ netCheck 4096 (now net) ≡ pass ⌝ }
+    requires { ⌜ SignalsWithin (now table) processors slots (netSize (now net)) ⌝ }
+    ensures { λ r. ⌜ Answers processors slots (testCheck test (network (now (net .entry))) (now (table .entry))) r ⌝ }
 {
     let lines = line_count(processors, slots);
     let mut k: usize = 0;
     while k < lines {
         let processor = processor_of(k, slots);
         let slot = slot_of(k, slots);
-        if !operands_right(net, table, processors, slots, processor, slot) {
-            return ModAnswer::WrongOperand((k + 2) as u16);
+        if !line_right(test, net, table, processors, slots, processor, slot) {
+            return refused_at(test, (k + 2) as u16);
         }
         k += 1;
     }
     ModAnswer::Accepted(processors, slots)
 }
 
-// MOD's check, NET being accepted: 20 and 21 by line, then 22, 24, 25 and 23, each over all lines.
+// The module that right lines give: 22, 24, 25 and 23, each over all lines.
+fn check_module(net: &[u8], table: &[u8], signals: u16, processors: u16, slots: u16) -> ModAnswer
+    requires { ⌜ Laid (now table) processors slots ⌝ }
+    requires { ⌜ netCheck 4096 (now net) ≡ pass ⌝ }
+    requires { ⌜ SignalsWithin (now table) processors slots (netSize (now net)) ⌝ }
+    requires { ⌜ (signals ≡ netSize (now net)) × (signals ≤ 4096) ⌝ }
+    ensures { λ r. ⌜ Answers processors slots (moduleCheck (network (now (net .entry))) (now (table .entry))) r ⌝ }
+{
+    let placements = check_placements(table, signals, processors, slots);
+    let ModAnswer::Accepted(_, _) = placements else {
+        return placements;
+    };
+    let sends = check_each(Test::Sends, net, table, processors, slots);
+    let ModAnswer::Accepted(_, _) = sends else {
+        return sends;
+    };
+    let receptions = check_each(Test::Receptions, net, table, processors, slots);
+    let ModAnswer::Accepted(_, _) = receptions else {
+        return receptions;
+    };
+    check_each(Test::Operands, net, table, processors, slots)
+}
+
+// MOD's check, NET being accepted: 20 and 21 by line, then 22, 24, 25 and 23.
 pub fn check_mod(net: &[u8], table: &[u8]) -> ModAnswer
     requires { ⌜ netCheck 4096 (now net) ≡ pass ⌝ }
     ensures { λ r. ⌜ Answers (modProcessors (now (table .entry))) (modSlots (now (table .entry))) (modCheck (network (now (net .entry))) (now (table .entry))) r ⌝ }
@@ -785,17 +799,5 @@ pub fn check_mod(net: &[u8], table: &[u8]) -> ModAnswer
     let ModAnswer::Accepted(_, _) = surplus else {
         return surplus;
     };
-    let placements = check_placements(table, signals, processors, slots);
-    let ModAnswer::Accepted(_, _) = placements else {
-        return placements;
-    };
-    let sends = check_sends(table, processors, slots);
-    let ModAnswer::Accepted(_, _) = sends else {
-        return sends;
-    };
-    let receptions = check_receptions(table, processors, slots);
-    let ModAnswer::Accepted(_, _) = receptions else {
-        return receptions;
-    };
-    check_operands(net, table, processors, slots)
+    check_module(net, table, signals, processors, slots)
 }

@@ -1,18 +1,18 @@
 -- A slot's stores, processor by processor, are the model's slot. The invariant: location i of the processors passed holds what they
 -- stored.
-use Prim.Native.Nat.{ℕ, zero, suc, _+_, _<_, _≤_}
+use Prim.Native.Nat.{ℕ, zero, suc, _+_, _<_}
 use mathlib.Core.Path.{_≡_, refl, sym, _∙_, ap}
 use mathlib.Core.Bool.{Bool, true, false, not, false≢true}
 use mathlib.Core.Logic.{_⊎_, inl, inr}
 use mathlib.Core.List.{List}
 use native.Mathlib.Omega.{arith}
 use lib.Dec.{eqb, ltb}
-use lib.ListN.{length, getD, set, length-set}
-use borrow.Author.Tests.{eqb-true, eqb-false, eq-eqb, ne-eqb, ltb-true, ltb-false, lt-ltb, le-ltb}
+use lib.ListN.{length, getD, length-set}
+use borrow.Author.Tests.{eqb-true, eq-eqb, ne-eqb, ltb-true, ltb-false, lt-ltb, le-ltb}
 use Rattle.logic.specs.Test.{_and_}
 use Rattle.logic.specs.Choice.{if_then_else_}
 use Rattle.model.specs.Network.{Network}
-use Rattle.model.specs.Module.{Module, At, Laid, localPresent, switchPresent, noSender, received}
+use Rattle.model.specs.Module.{Module, Laid, localPresent, switchPresent, noSender, received}
 use Rattle.model.specs.Machine.{Memory, fetch, result, sent, stored, slot}
 use Rattle.memory.specs.Memory.{memoryLength, blank, place, memoryOf, writtenAt, written, within, here, held}
 use Rattle.memory.proofs.Written.{Place, is-written, written-length, written-at, written-here, written-else, written-blank, fetch-bytes, stored-there, stored-else, Agree, written-join, written-kept, written-same}

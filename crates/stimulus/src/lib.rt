@@ -4,8 +4,7 @@ ghost use mathlib.Core.Path.{_≡_};
 ghost use mathlib.Core.Bool.{true};
 ghost use Prim.Native.Nat.{_<_};
 ghost use lib.Dec.{eqb};
-ghost use lib.ListN.{getD};
-ghost use Rattle.fields.specs.Line.{isLineAt, newline};
+ghost use Rattle.fields.specs.Line.{isLineAt};
 ghost use Rattle.model.specs.Refusal.{pass};
 ghost use Rattle.model.specs.Network.{isSignal, input};
 ghost use Rattle.model.specs.Netlist.{network, netCheck};
@@ -45,16 +44,6 @@ pub struct Cursor {
 pub enum Step {
     Given(u16, u16, u16, Cursor),
     End(u16),
-}
-
-// Byte 10 stands at a place.
-fn ends_line(s: &[u8], place: usize) -> bool
-    ensures { λ r. ⌜ r ≡ eqb (getD (now (s .entry)) place 0) newline ⌝ }
-{
-    if s.len() <= place {
-        return false;
-    }
-    s[place] == 10
 }
 
 // "The last line is T, 0, 0".
@@ -175,7 +164,7 @@ pub fn check_stim(net: &[u8], stim: &[u8]) -> StimAnswer
             place = next;
             field += 1;
         }
-        if !ends_line(stim, place) {
+        if !fields::ends_line(stim, place) {
             break 'lines;
         }
         place += 1;

@@ -1,7 +1,7 @@
 // The working tables: the panel and the program, read where their layout has each number.
 
 ghost use mathlib.Core.Path.{_≡_};
-ghost use Prim.Native.Nat.{_+_, _*_, _<_, _≤_};
+ghost use Prim.Native.Nat.{_+_, _<_, _≤_};
 ghost use lib.ListN.{length, getD};
 ghost use Rattle.operands.specs.Operand.{operandOf};
 ghost use Rattle.tables.specs.Panel.{panelLength, word, codesIn};

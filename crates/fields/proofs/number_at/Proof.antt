@@ -1,7 +1,6 @@
 use mathlib.Core.Path.{sym, _∙_}
 use native.Mathlib.Omega.{arith}
 use Rattle.fields.proofs.LowHalf.{field-length, number-small, number-low}
-use borrow.Author.Needs.{needs}
 use Rattle.fields.proofs.number_at.Statement.{statement}
 use Rattle.fields.proofs.number_at.Tie as tie
 

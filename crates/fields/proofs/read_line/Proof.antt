@@ -1,10 +1,10 @@
-use Prim.Native.Nat.{ℕ, _≤_, _-_, _+_, _*_}
+use Prim.Native.Nat.{_≤_, _-_, _+_, _*_}
 use mathlib.Core.Path.{_≡_, sym, _∙_}
 use mathlib.Core.Bool.{true}
 use native.Mathlib.Omega.{arith}
 use Rattle.logic.specs.Test.{all}
 use Rattle.fields.specs.Field.{isFieldAt}
-use Rattle.fields.proofs.Lines.{line-stops, line-goes-on, line-right, line-unended, line-cut}
+use Rattle.fields.proofs.Lines.{line-stops, line-goes-on, line-right, line-unended, ended-within}
 use borrow.Author.Needs.{needs}
 use Rattle.fields.proofs.read_line.Statement.{statement}
 use Rattle.fields.proofs.read_line.Tie as tie
@@ -44,20 +44,17 @@ loop-again c =
     let next = line-goes-on _ _ _ _ (i .1) _ _ (i .2) (sym (c .before .before .before .read-field .ensures) ∙ c .before .next .given .1) in
     (omega arith, next .0, next .1)
 
+ends-line-requires : tie.Need-ends-line-requires Inv-loop μ-loop
+ends-line-requires c κs = search needs
+
+add-t10 : tie.Need-add-t10 Inv-loop μ-loop
+add-t10 c = omega (arith, ended-within (c .before .before .before .before .before .args .s .now) (c .before .before .before .loop .place) (sym (c .before .ends-line .ensures) ∙ c .if1 .taken))
+
 returns-2 : tie.Need-returns-2 Inv-loop μ-loop
-returns-2 c = let i = c .before .before .loop .inv in sym (line-cut _ _ _ _ (i .1) _ (i .0) (c .before .loop-test .left) (i .2) (c .if1 .taken))
-
-shared-slice-read-if2 : tie.Need-shared-slice-read-if2 Inv-loop μ-loop
-shared-slice-read-if2 c = search needs
-
-add-t13 : tie.Need-add-t13 Inv-loop μ-loop
-add-t13 c = search needs
+returns-2 c = let i = c .before .before .before .loop .inv in sym (line-right _ _ _ _ (i .1) _ (i .0) (c .before .before .loop-test .left) (i .2) (sym (c .before .ends-line .ensures) ∙ c .if1 .taken))
 
 returns-3 : tie.Need-returns-3 Inv-loop μ-loop
-returns-3 c = let i = c .before .before .before .before .loop .inv in sym (line-right _ _ _ _ (i .1) _ (i .0) (c .before .before .before .loop-test .left) (i .2) (c .if2 .taken))
-
-returns-4 : tie.Need-returns-4 Inv-loop μ-loop
-returns-4 c = let i = c .before .before .before .before .loop .inv in sym (line-unended _ _ _ _ (i .1) _ (i .0) (c .before .before .before .loop-test .left) (i .2) (c .if2 .left))
+returns-3 c = let i = c .before .before .before .loop .inv in sym (line-unended _ _ _ _ (i .1) _ (i .0) (c .before .before .loop-test .left) (i .2) (sym (c .before .ends-line .ensures) ∙ c .if1 .left))
 
 pub read-line-spec : {M : Type 1} → statement M
 read-line-spec =
@@ -73,8 +70,7 @@ read-line-spec =
     add-k
     loop-less
     loop-again
+    ends-line-requires
+    add-t10
     returns-2
-    shared-slice-read-if2
-    add-t13
-    returns-3
-    returns-4)
+    returns-3)

@@ -1,36 +1,23 @@
-use Rattle.logic.proofs.Tests.{decided}
-use Rattle.gates.specs.Translation.{translation, isConstant}
+use mathlib.Core.Path.{sym}
+use Rattle.gates.proofs.Translations.{not-supplied}
 use borrow.Author.Needs.{needs}
 use Rattle.gates.proofs.translate.Statement.{statement}
 use Rattle.gates.proofs.translate.Tie as tie
 
 returns : tie.Need-returns
-unfolding translation isConstant
-returns c = search (needs, decided)
+returns c = sym (not-supplied _ _ (c .if1 .taken))
+
+literal-requires : tie.Need-literal-requires
+literal-requires c κs = search needs
 
 returns-2 : tie.Need-returns-2
-unfolding translation isConstant
-returns-2 c = search (needs, decided)
+returns-2 c = search needs
 
-inverse-requires : tie.Need-inverse-requires
-inverse-requires c κs = search needs
+packed-requires : tie.Need-packed-requires
+packed-requires c κs = search needs
 
 returns-3 : tie.Need-returns-3
-unfolding translation isConstant
-returns-3 c = search (needs, decided)
-
-without-z-requires : tie.Need-without-z-requires
-without-z-requires c κs = search needs
-
-returns-4 : tie.Need-returns-4
-unfolding translation isConstant
-returns-4 c = search (needs, decided)
-
-returns-5 : tie.Need-returns-5
-unfolding translation isConstant
-returns-5 c = search (needs, decided)
+returns-3 c = search needs
 
 pub translate-spec : {M : Type 1} → statement M
-translate-spec =
-    tie.close
-    (tie.spec returns returns-2 inverse-requires returns-3 without-z-requires returns-4 returns-5)
+translate-spec = tie.close (tie.spec returns literal-requires returns-2 packed-requires returns-3)

@@ -1,6 +1,6 @@
 -- The invariant: the memory holds what so many cycles left, and none of them showed a watched value.
 use Prim.Native.Nat.{ℕ, _≤_, _<_, _-_}
-use mathlib.Core.Path.{_≡_, _∙_, ap, sym, subst}
+use mathlib.Core.Path.{_≡_, _∙_, sym, subst}
 use Rattle.model.specs.Module.{At}
 use Rattle.model.specs.Machine.{Memory}
 use Rattle.model.specs.Session.{ticks, watched}

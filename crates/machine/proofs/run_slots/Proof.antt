@@ -1,6 +1,6 @@
 -- The invariant: the memory holds what the slots below i left.
 use Prim.Native.Nat.{_≤_, _-_}
-use mathlib.Core.Path.{_≡_, _∙_, ap}
+use mathlib.Core.Path.{_≡_}
 use Rattle.model.specs.Machine.{slots as slotsDone}
 use Rattle.memory.specs.Memory.{memoryOf, within, held, MemoryBytes}
 use Rattle.memory.proofs.Written.{bytes-written}

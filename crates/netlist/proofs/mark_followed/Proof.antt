@@ -1,9 +1,8 @@
 use Rattle.netlist.proofs.Loading.{follow-more, follow-ends}
-use Prim.Native.Nat.{ℕ, suc, _≤_, _<_, _-_, _+_, _*_}
-use mathlib.Core.Path.{_≡_, sym, _∙_, ap}
+use Prim.Native.Nat.{_≤_, _-_}
+use mathlib.Core.Path.{_≡_}
 use native.Mathlib.Omega.{arith}
-use native.Mathlib.Numerals.{add-one}
-use lib.ListN.{length, set, length-set}
+use lib.ListN.{length, length-set}
 use Rattle.netlist.specs.Graph.{followTo}
 use borrow.Author.Needs.{needs}
 use Rattle.netlist.proofs.mark_followed.Statement.{statement}

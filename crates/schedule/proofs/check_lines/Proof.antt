@@ -79,11 +79,11 @@ loop-again c =
     let enum-told = c .enum-told in
     (loop .inv .0, omega arith, field-goes-on _ _ _ (loop .inv .2) (sym (read-field .ensures) ∙ enum-told .given .1))
 
-add-ends-at : tie.Need-add-ends-at Inv-loop μ-loop Inv-lines μ-lines
-add-ends-at c = search needs
+add-ends-line : tie.Need-add-ends-line Inv-loop μ-loop Inv-lines μ-lines
+add-ends-line c = search needs
 
-ends-at-requires : tie.Need-ends-at-requires Inv-loop μ-loop Inv-lines μ-lines
-ends-at-requires c κs = search needs
+ends-line-requires : tie.Need-ends-line-requires Inv-loop μ-loop Inv-lines μ-lines
+ends-line-requires c κs = search needs
 
 add-t21 : tie.Need-add-t21 Inv-loop μ-loop Inv-lines μ-lines
 add-t21 c = search needs
@@ -101,9 +101,9 @@ line-laid-requires : tie.Need-line-laid-requires Inv-loop μ-loop Inv-lines μ-l
 line-laid-requires c κs =
     let loop = c .before .before .before .before .before .loop in
     let loop-test = c .before .before .before .before .loop-test in
-    let ends-at = c .before .before .before .ends-at in
+    let ends-line = c .before .before .before .ends-line in
     let if1 = c .before .before .if1 in
-    let right = line-whole _ _ _ (loop .inv .1) (loop-test .left) (loop .inv .2) _ (ends-at .ensures) (not-false _ (if1 .left)) in
+    let right = line-whole _ _ _ (loop .inv .1) (loop-test .left) (loop .inv .2) _ (ends-line .ensures) (not-false _ (if1 .left)) in
     right
 
 add-t23 : tie.Need-add-t23 Inv-loop μ-loop Inv-lines μ-lines
@@ -124,11 +124,11 @@ lines-again c =
     let lines = c .before .before .before .before .before .before .before .before .before .lines in
     let loop = c .before .before .before .before .before .before .before .loop in
     let loop-test = c .before .before .before .before .before .before .loop-test in
-    let ends-at = c .before .before .before .before .before .ends-at in
+    let ends-line = c .before .before .before .before .before .ends-line in
     let if1 = c .before .before .before .before .if1 in
     let line-laid = c .before .line-laid in
     let if2 = c .if2 in
-    let right = line-whole _ _ _ (loop .inv .1) (loop-test .left) (loop .inv .2) _ (ends-at .ensures) (not-false _ (if1 .left)) in
+    let right = line-whole _ _ _ (loop .inv .1) (loop-test .left) (loop .inv .2) _ (ends-line .ensures) (not-false _ (if1 .left)) in
     (loop .inv .0 ∙ lines .inv .0, omega arith, λ n e. below-goes-on _ _ (lines .inv .2 n e) (slot-right (s .args .table .now) (lines .k) (85 * (lines .k + 1)) refl n right (line-laid .result) (cc) (not-false _ (if2 .left))))
 
 returns : tie.Need-returns Inv-loop μ-loop Inv-lines μ-lines
@@ -158,9 +158,9 @@ returns-3 c =
     let lines-test = c .before .before .before .before .lines-test in
     let loop = c .before .before .before .loop in
     let loop-test = c .before .before .loop-test in
-    let ends-at = c .before .ends-at in
+    let ends-line = c .before .ends-line in
     let if1 = c .if1 in
-    λ n e. record { refusal = sym (lines-stop _ _ _ (s .pre) _ _ _ (line-count .ensures .0) (lines .inv .2) n e (lines-test .taken) (slot-misformed _ _ _ refl n (line-unended _ _ _ (loop .inv .1) (loop-test .left) (loop .inv .2) _ (ends-at .ensures) (not-true _ (if1 .taken))))); sizes = tt }
+    λ n e. record { refusal = sym (lines-stop _ _ _ (s .pre) _ _ _ (line-count .ensures .0) (lines .inv .2) n e (lines-test .taken) (slot-misformed _ _ _ refl n (line-unended _ _ _ (loop .inv .1) (loop-test .left) (loop .inv .2) _ (ends-line .ensures) (not-true _ (if1 .taken))))); sizes = tt }
 
 returns-4 : tie.Need-returns-4 Inv-loop μ-loop Inv-lines μ-lines
 returns-4 c =
@@ -170,11 +170,11 @@ returns-4 c =
     let lines-test = c .before .before .before .before .before .before .before .before .lines-test in
     let loop = c .before .before .before .before .before .before .before .loop in
     let loop-test = c .before .before .before .before .before .before .loop-test in
-    let ends-at = c .before .before .before .before .before .ends-at in
+    let ends-line = c .before .before .before .before .before .ends-line in
     let if1 = c .before .before .before .before .if1 in
     let line-laid = c .before .line-laid in
     let if2 = c .if2 in
-    let right = line-whole _ _ _ (loop .inv .1) (loop-test .left) (loop .inv .2) _ (ends-at .ensures) (not-false _ (if1 .left)) in
+    let right = line-whole _ _ _ (loop .inv .1) (loop-test .left) (loop .inv .2) _ (ends-line .ensures) (not-false _ (if1 .left)) in
     λ n e. record { refusal = sym (lines-stop _ _ _ (s .pre) _ _ _ (line-count .ensures .0) (lines .inv .2) n e (lines-test .taken) (slot-wrong (s .args .table .now) (lines .k) (85 * (lines .k + 1)) refl n right (line-laid .result) (cc) (not-true _ (if2 .taken)))); sizes = tt }
 
 pub check-lines-spec : {M : Type 1} → statement M
@@ -200,8 +200,8 @@ check-lines-spec =
     add-column
     loop-less
     loop-again
-    add-ends-at
-    ends-at-requires
+    add-ends-line
+    ends-line-requires
     add-t21
     cast-t22
     processor-of-requires

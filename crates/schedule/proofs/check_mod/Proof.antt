@@ -85,8 +85,8 @@ returns-3 c =
     let lines-pass = passed _ _ _ _ _ _ lines-answer (enum-told .given .1) in
     after _ _ _ _ _ header-pass (after _ _ _ _ _ lines-pass (refused _ _ _ _ _ _ _ (check-surplus .ensures) (not-accepted _ (m3 .keys2))))
 
-check-placements-requires : tie.Need-check-placements-requires
-check-placements-requires c κs =
+check-module-requires : tie.Need-check-module-requires
+check-module-requires c κs =
     let s = c .before .before .before .before .before .before .before .before .before .before .before .before .before in
     let check-header = c .before .before .before .before .before .before .before .before .before .before .check-header in
     let header = c .before .before .before .before .before .before .before .before .header in
@@ -98,181 +98,30 @@ check-placements-requires c κs =
     let sized = header-sized _ _ _ header-pass (sizes .0) (sizes .1) in
     let n = network (s .args .net .now) in
     let of-size = net-signals (s .args .net .now) _ (number-at .ensures) in
-    let lines-answer = check-lines .ensures n of-size in
-    let lines-pass = passed _ _ _ _ _ _ lines-answer (enum-told .given .1) in
+    let lines-pass = passed _ _ _ _ _ _ (check-lines .ensures n of-size) (enum-told .given .1) in
     let laid = lines-laid (s .args .net .now) (s .args .table .now) _ _ (s .pre) sized lines-pass in
+    let within = lines-within (s .args .net .now) (s .args .table .now) _ _ (s .pre) sized lines-pass in
     let few = signals-few (s .args .net .now) (s .args .table .now) _ _ (s .pre) sized lines-pass in
-    (laid, omega (arith, number-at .ensures, few))
-
-enum-told-3 : tie.Need-enum-told-3
-enum-told-3 c = search needs
+    (laid, (s .pre, (within, (number-at .ensures, omega (arith, number-at .ensures, few)))))
 
 returns-4 : tie.Need-returns-4
 unfolding modCheck
 returns-4 c =
-    let s = c .before .before .before .before .before .before .before .before .before .before .before .before .before .before .before in
-    let check-header = c .before .before .before .before .before .before .before .before .before .before .before .before .check-header in
-    let header = c .before .before .before .before .before .before .before .before .before .before .header in
-    let number-at = c .before .before .before .before .before .before .before .before .number-at in
-    let check-lines = c .before .before .before .before .before .before .before .check-lines in
-    let enum-told = c .before .before .before .before .before .enum-told in
-    let check-surplus = c .before .before .before .before .check-surplus in
-    let enum-told2 = c .before .before .enum-told2 in
-    let check-placements = c .before .check-placements in
-    let m4 = c .match4 in
+    let s = c .before .before .before .before .before .before .before .before .before .before .before .before .before .before in
+    let check-header = c .before .before .before .before .before .before .before .before .before .before .before .check-header in
+    let header = c .before .before .before .before .before .before .before .before .before .header in
+    let number-at = c .before .before .before .before .before .before .before .number-at in
+    let check-lines = c .before .before .before .before .before .before .check-lines in
+    let enum-told = c .before .before .before .before .enum-told in
+    let check-surplus = c .before .before .before .check-surplus in
+    let enum-told2 = c .before .enum-told2 in
     let header-pass = passed _ _ _ _ _ _ (check-header .ensures) (header .given .1) in
     let n = network (s .args .net .now) in
     let of-size = net-signals (s .args .net .now) _ (number-at .ensures) in
-    let lines-answer = check-lines .ensures n of-size in
-    let lines-pass = passed _ _ _ _ _ _ lines-answer (enum-told .given .1) in
+    let lines-pass = passed _ _ _ _ _ _ (check-lines .ensures n of-size) (enum-told .given .1) in
     let surplus-pass = passed _ _ _ _ _ _ (check-surplus .ensures) (enum-told2 .given .1) in
-    let placed-answer = check-placements .ensures n of-size in
-    after _ _ _ _ _ header-pass (after _ _ _ _ _ lines-pass (after _ _ _ _ _ surplus-pass (refused _ _ _ _ _ _ _ placed-answer (not-accepted _ (m4 .keys2)))))
-
-check-sends-requires : tie.Need-check-sends-requires
-check-sends-requires c κs =
-    let s = c .before .before .before .before .before .before .before .before .before .before .before .before .before .before .before .before in
-    let check-header = c .before .before .before .before .before .before .before .before .before .before .before .before .before .check-header in
-    let header = c .before .before .before .before .before .before .before .before .before .before .before .header in
-    let number-at = c .before .before .before .before .before .before .before .before .before .number-at in
-    let check-lines = c .before .before .before .before .before .before .before .before .check-lines in
-    let enum-told = c .before .before .before .before .before .before .enum-told in
-    let header-pass = passed _ _ _ _ _ _ (check-header .ensures) (header .given .1) in
     let sizes = sizes-of _ _ _ _ _ _ (check-header .ensures) (header .given .1) in
-    let sized = header-sized _ _ _ header-pass (sizes .0) (sizes .1) in
-    let n = network (s .args .net .now) in
-    let of-size = net-signals (s .args .net .now) _ (number-at .ensures) in
-    let lines-answer = check-lines .ensures n of-size in
-    let lines-pass = passed _ _ _ _ _ _ lines-answer (enum-told .given .1) in
-    let laid = lines-laid (s .args .net .now) (s .args .table .now) _ _ (s .pre) sized lines-pass in
-    laid
-
-enum-told-4 : tie.Need-enum-told-4
-enum-told-4 c = search needs
-
-returns-5 : tie.Need-returns-5
-unfolding modCheck
-returns-5 c =
-    let s = c .before .before .before .before .before .before .before .before .before .before .before .before .before .before .before .before .before .before in
-    let check-header = c .before .before .before .before .before .before .before .before .before .before .before .before .before .before .before .check-header in
-    let header = c .before .before .before .before .before .before .before .before .before .before .before .before .before .header in
-    let number-at = c .before .before .before .before .before .before .before .before .before .before .before .number-at in
-    let check-lines = c .before .before .before .before .before .before .before .before .before .before .check-lines in
-    let enum-told = c .before .before .before .before .before .before .before .before .enum-told in
-    let check-surplus = c .before .before .before .before .before .before .before .check-surplus in
-    let enum-told2 = c .before .before .before .before .before .enum-told2 in
-    let check-placements = c .before .before .before .before .check-placements in
-    let enum-told3 = c .before .before .enum-told3 in
-    let check-sends = c .before .check-sends in
-    let m5 = c .match5 in
-    let header-pass = passed _ _ _ _ _ _ (check-header .ensures) (header .given .1) in
-    let n = network (s .args .net .now) in
-    let of-size = net-signals (s .args .net .now) _ (number-at .ensures) in
-    let lines-answer = check-lines .ensures n of-size in
-    let lines-pass = passed _ _ _ _ _ _ lines-answer (enum-told .given .1) in
-    let surplus-pass = passed _ _ _ _ _ _ (check-surplus .ensures) (enum-told2 .given .1) in
-    let placed-answer = check-placements .ensures n of-size in
-    let placed-pass = passed _ _ _ _ _ _ placed-answer (enum-told3 .given .1) in
-    after _ _ _ _ _ header-pass (after _ _ _ _ _ lines-pass (after _ _ _ _ _ surplus-pass (after _ _ _ _ _ placed-pass (refused _ _ _ _ _ _ _ (check-sends .ensures) (not-accepted _ (m5 .keys2))))))
-
-check-receptions-requires : tie.Need-check-receptions-requires
-check-receptions-requires c κs =
-    let s = c .before .before .before .before .before .before .before .before .before .before .before .before .before .before .before .before .before .before .before in
-    let check-header = c .before .before .before .before .before .before .before .before .before .before .before .before .before .before .before .before .check-header in
-    let header = c .before .before .before .before .before .before .before .before .before .before .before .before .before .before .header in
-    let number-at = c .before .before .before .before .before .before .before .before .before .before .before .before .number-at in
-    let check-lines = c .before .before .before .before .before .before .before .before .before .before .before .check-lines in
-    let enum-told = c .before .before .before .before .before .before .before .before .before .enum-told in
-    let header-pass = passed _ _ _ _ _ _ (check-header .ensures) (header .given .1) in
-    let sizes = sizes-of _ _ _ _ _ _ (check-header .ensures) (header .given .1) in
-    let sized = header-sized _ _ _ header-pass (sizes .0) (sizes .1) in
-    let n = network (s .args .net .now) in
-    let of-size = net-signals (s .args .net .now) _ (number-at .ensures) in
-    let lines-answer = check-lines .ensures n of-size in
-    let lines-pass = passed _ _ _ _ _ _ lines-answer (enum-told .given .1) in
-    let laid = lines-laid (s .args .net .now) (s .args .table .now) _ _ (s .pre) sized lines-pass in
-    laid
-
-enum-told-5 : tie.Need-enum-told-5
-enum-told-5 c = search needs
-
-returns-6 : tie.Need-returns-6
-unfolding modCheck
-returns-6 c =
-    let s = c .before .before .before .before .before .before .before .before .before .before .before .before .before .before .before .before .before .before .before .before .before in
-    let check-header = c .before .before .before .before .before .before .before .before .before .before .before .before .before .before .before .before .before .before .check-header in
-    let header = c .before .before .before .before .before .before .before .before .before .before .before .before .before .before .before .before .header in
-    let number-at = c .before .before .before .before .before .before .before .before .before .before .before .before .before .before .number-at in
-    let check-lines = c .before .before .before .before .before .before .before .before .before .before .before .before .before .check-lines in
-    let enum-told = c .before .before .before .before .before .before .before .before .before .before .before .enum-told in
-    let check-surplus = c .before .before .before .before .before .before .before .before .before .before .check-surplus in
-    let enum-told2 = c .before .before .before .before .before .before .before .before .enum-told2 in
-    let check-placements = c .before .before .before .before .before .before .before .check-placements in
-    let enum-told3 = c .before .before .before .before .before .enum-told3 in
-    let check-sends = c .before .before .before .before .check-sends in
-    let enum-told4 = c .before .before .enum-told4 in
-    let check-receptions = c .before .check-receptions in
-    let m6 = c .match6 in
-    let header-pass = passed _ _ _ _ _ _ (check-header .ensures) (header .given .1) in
-    let n = network (s .args .net .now) in
-    let of-size = net-signals (s .args .net .now) _ (number-at .ensures) in
-    let lines-answer = check-lines .ensures n of-size in
-    let lines-pass = passed _ _ _ _ _ _ lines-answer (enum-told .given .1) in
-    let surplus-pass = passed _ _ _ _ _ _ (check-surplus .ensures) (enum-told2 .given .1) in
-    let placed-answer = check-placements .ensures n of-size in
-    let placed-pass = passed _ _ _ _ _ _ placed-answer (enum-told3 .given .1) in
-    let sends-pass = passed _ _ _ _ _ _ (check-sends .ensures) (enum-told4 .given .1) in
-    after _ _ _ _ _ header-pass (after _ _ _ _ _ lines-pass (after _ _ _ _ _ surplus-pass (after _ _ _ _ _ placed-pass (after _ _ _ _ _ sends-pass (refused _ _ _ _ _ _ _ (check-receptions .ensures) (not-accepted _ (m6 .keys2)))))))
-
-check-operands-requires : tie.Need-check-operands-requires
-check-operands-requires c κs =
-    let s = c .before .before .before .before .before .before .before .before .before .before .before .before .before .before .before .before .before .before .before .before .before .before in
-    let check-header = c .before .before .before .before .before .before .before .before .before .before .before .before .before .before .before .before .before .before .before .check-header in
-    let header = c .before .before .before .before .before .before .before .before .before .before .before .before .before .before .before .before .before .header in
-    let number-at = c .before .before .before .before .before .before .before .before .before .before .before .before .before .before .before .number-at in
-    let check-lines = c .before .before .before .before .before .before .before .before .before .before .before .before .before .before .check-lines in
-    let enum-told = c .before .before .before .before .before .before .before .before .before .before .before .before .enum-told in
-    let header-pass = passed _ _ _ _ _ _ (check-header .ensures) (header .given .1) in
-    let sizes = sizes-of _ _ _ _ _ _ (check-header .ensures) (header .given .1) in
-    let sized = header-sized _ _ _ header-pass (sizes .0) (sizes .1) in
-    let n = network (s .args .net .now) in
-    let of-size = net-signals (s .args .net .now) _ (number-at .ensures) in
-    let lines-answer = check-lines .ensures n of-size in
-    let lines-pass = passed _ _ _ _ _ _ lines-answer (enum-told .given .1) in
-    let laid = lines-laid (s .args .net .now) (s .args .table .now) _ _ (s .pre) sized lines-pass in
-    let within = lines-within (s .args .net .now) (s .args .table .now) _ _ (s .pre) sized lines-pass in
-    (laid, (s .pre, within))
-
-returns-7 : tie.Need-returns-7
-unfolding modCheck
-returns-7 c =
-    let s = c .before .before .before .before .before .before .before .before .before .before .before .before .before .before .before .before .before .before .before .before .before .before .before in
-    let check-header = c .before .before .before .before .before .before .before .before .before .before .before .before .before .before .before .before .before .before .before .before .check-header in
-    let header = c .before .before .before .before .before .before .before .before .before .before .before .before .before .before .before .before .before .before .header in
-    let number-at = c .before .before .before .before .before .before .before .before .before .before .before .before .before .before .before .before .number-at in
-    let check-lines = c .before .before .before .before .before .before .before .before .before .before .before .before .before .before .before .check-lines in
-    let enum-told = c .before .before .before .before .before .before .before .before .before .before .before .before .before .enum-told in
-    let check-surplus = c .before .before .before .before .before .before .before .before .before .before .before .before .check-surplus in
-    let enum-told2 = c .before .before .before .before .before .before .before .before .before .before .enum-told2 in
-    let check-placements = c .before .before .before .before .before .before .before .before .before .check-placements in
-    let enum-told3 = c .before .before .before .before .before .before .before .enum-told3 in
-    let check-sends = c .before .before .before .before .before .before .check-sends in
-    let enum-told4 = c .before .before .before .before .enum-told4 in
-    let check-receptions = c .before .before .before .check-receptions in
-    let enum-told5 = c .before .enum-told5 in
-    let check-operands = c .check-operands in
-    let header-pass = passed _ _ _ _ _ _ (check-header .ensures) (header .given .1) in
-    let n = network (s .args .net .now) in
-    let of-size = net-signals (s .args .net .now) _ (number-at .ensures) in
-    let lines-answer = check-lines .ensures n of-size in
-    let lines-pass = passed _ _ _ _ _ _ lines-answer (enum-told .given .1) in
-    let surplus-pass = passed _ _ _ _ _ _ (check-surplus .ensures) (enum-told2 .given .1) in
-    let placed-answer = check-placements .ensures n of-size in
-    let placed-pass = passed _ _ _ _ _ _ placed-answer (enum-told3 .given .1) in
-    let sends-pass = passed _ _ _ _ _ _ (check-sends .ensures) (enum-told4 .given .1) in
-    let receptions-pass = passed _ _ _ _ _ _ (check-receptions .ensures) (enum-told5 .given .1) in
-    let sizes = sizes-of _ _ _ _ _ _ (check-header .ensures) (header .given .1) in
-    after _ _ _ _ _ header-pass (after _ _ _ _ _ lines-pass (after _ _ _ _ _ surplus-pass (after _ _ _ _ _ placed-pass (after _ _ _ _ _ sends-pass (after _ _ _ _ _ receptions-pass (resized _ _ _ _ _ _ (sizes .0) (sizes .1) (check-operands .ensures)))))))
+    after _ _ _ _ _ header-pass (after _ _ _ _ _ lines-pass (after _ _ _ _ _ surplus-pass (resized _ _ _ _ _ _ (sizes .0) (sizes .1) (c .check-module .ensures))))
 
 pub check-mod-spec : {M : Type 1} → statement M
 check-mod-spec =
@@ -288,14 +137,5 @@ check-mod-spec =
     check-surplus-requires
     enum-told-2
     returns-3
-    check-placements-requires
-    enum-told-3
-    returns-4
-    check-sends-requires
-    enum-told-4
-    returns-5
-    check-receptions-requires
-    enum-told-5
-    returns-6
-    check-operands-requires
-    returns-7)
+    check-module-requires
+    returns-4)

@@ -1,7 +1,6 @@
 use Prim.Native.Nat.{_+_}
 use mathlib.Core.Path.{sym, _∙_}
 use native.Mathlib.Omega.{arith}
-use Rattle.logic.specs.Test.{_and_}
 use Rattle.model.proofs.RightLine.{line-within}
 use Rattle.schedule.specs.Layout.{operandsAt}
 use Rattle.schedule.proofs.Judged.{pair-of-line, chain-stops, chain-goes-on}

@@ -1,6 +1,5 @@
 use mathlib.Core.Path.{sym, _∙_, ap}
 use native.Mathlib.Omega.{arith}
-use Rattle.logic.specs.Test.{_and_}
 use Rattle.operands.specs.declared.Instruction.{Instruction}
 use Rattle.schedule.proofs.Judged.{chain-stops, chain-goes-on}
 use Rattle.schedule.proofs.Lines.{all-4}

@@ -1,75 +1,42 @@
+-- What the processor that it receives from sends decides.
 use Prim.Native.Nat.{_<_}
-use mathlib.Core.Path.{ap}
-use Rattle.operands.specs.declared.Instruction.{Instruction}
-use Rattle.schedule.proofs.Named.{send-has, sender-low, reception-none, reception-right, reception-wrong}
-use Rattle.schedule.proofs.Told.{not-none}
-use mathlib.Core.Path.{_∙_}
+use mathlib.Core.Path.{ap, _∙_}
+use mathlib.Core.Bool.{not}
 use native.Mathlib.Omega.{arith}
+use Rattle.schedule.proofs.Named.{send-has, sender-low, reception-none, reception-sent}
 use borrow.Author.Needs.{needs}
 use Rattle.schedule.proofs.reception_right.Statement.{statement}
 use Rattle.schedule.proofs.reception_right.Tie as tie
 
-instruction-at-requires : tie.Need-instruction-at-requires
-instruction-at-requires c κs = search needs
+sender-at-requires : tie.Need-sender-at-requires
+sender-at-requires c κs = search needs
 
 returns : tie.Need-returns
-returns c =
-    let instruction-at = c .before .instruction-at in
-    let if1 = c .if1 in
-    let x = instruction-at .result .sender in
-    let from = ap (λ (r : Instruction). r .sender) (instruction-at .ensures) in
-    reception-none _ _ _ x from (if1 .taken)
+returns c = reception-none _ _ _ _ (c .before .sender-at .ensures) (c .if1 .taken)
 
 cast-send-at : tie.Need-cast-send-at
 cast-send-at c = search needs
 
 send-at-requires : tie.Need-send-at-requires
 send-at-requires c κs =
-    let instruction-at = c .before .instruction-at in
     let s = c .before .before .before in
-    let if1 = c .if1 in
-    let x = instruction-at .result .sender in
-    let from = ap (λ (r : Instruction). r .sender) (instruction-at .ensures) in
-    let low-x : x < s .args .processors = omega (arith, from, sender-low (s .args .table .now) (s .args .processors) (s .args .slots) (s .pre .0) (s .args .processor) (s .args .slot) (s .pre .1 .0) (s .pre .1 .1) (λ e. if1 .left (from ∙ e))) in
-    (s .pre .0, (low-x, s .pre .1 .1))
+    let from = c .before .sender-at .ensures in
+    (s .pre .0, (omega (arith, from, sender-low _ _ _ (s .pre .0) _ _ (s .pre .1 .0) (s .pre .1 .1) (λ e. c .if1 .left (from ∙ e))), s .pre .1 .1))
 
-enum-told : tie.Need-enum-told
-enum-told c = search needs
+is-none-requires : tie.Need-is-none-requires
+is-none-requires c κs = search needs
 
 returns-2 : tie.Need-returns-2
 returns-2 c =
-    let instruction-at = c .before .before .before .instruction-at in
     let s = c .before .before .before .before .before in
-    let if1 = c .before .before .if1 in
+    let from = c .before .before .before .sender-at .ensures in
+    let some = c .before .before .if1 .left in
     let send-at = c .before .send-at in
-    let m = c .match in
-    let x = instruction-at .result .sender in
-    let from = ap (λ (r : Instruction). r .sender) (instruction-at .ensures) in
-    let low-x : x < s .args .processors = omega (arith, from, sender-low (s .args .table .now) (s .args .processors) (s .args .slots) (s .pre .0) (s .args .processor) (s .args .slot) (s .pre .1 .0) (s .pre .1 .1) (λ e. if1 .left (from ∙ e))) in
-    let has-x = send-has (s .args .table .now) (s .args .processors) (s .args .slots) (s .pre .0) x (s .args .slot) low-x (s .pre .1 .1) (send-at .result) (send-at .ensures) in
-    reception-right _ _ _ x from (if1 .left) _ has-x (not-none _ (m .keys2))
-
-returns-3 : tie.Need-returns-3
-returns-3 c =
-    let instruction-at = c .before .before .before .before .instruction-at in
-    let s = c .before .before .before .before .before .before in
-    let if1 = c .before .before .before .if1 in
-    let send-at = c .before .before .send-at in
-    let enum-told = c .enum-told in
-    let x = instruction-at .result .sender in
-    let from = ap (λ (r : Instruction). r .sender) (instruction-at .ensures) in
-    let low-x : x < s .args .processors = omega (arith, from, sender-low (s .args .table .now) (s .args .processors) (s .args .slots) (s .pre .0) (s .args .processor) (s .args .slot) (s .pre .1 .0) (s .pre .1 .1) (λ e. if1 .left (from ∙ e))) in
-    let has-x = send-has (s .args .table .now) (s .args .processors) (s .args .slots) (s .pre .0) x (s .args .slot) low-x (s .pre .1 .1) (send-at .result) (send-at .ensures) in
-    reception-wrong _ _ _ x from (if1 .left) _ has-x (enum-told .given .1)
+    let low : c .before .before .before .sender-at .result < s .args .processors = omega (arith, from, sender-low _ _ _ (s .pre .0) _ _ (s .pre .1 .0) (s .pre .1 .1) (λ e. some (from ∙ e))) in
+    let has = send-has _ _ _ (s .pre .0) _ _ low (s .pre .1 .1) (send-at .result) (send-at .ensures) in
+    ap not (c .is-none .ensures) ∙ reception-sent _ _ _ _ from some _ has
 
 pub reception-right-spec : {M : Type 1} → statement M
 reception-right-spec =
     tie.close
-    (tie.spec
-    instruction-at-requires
-    returns
-    cast-send-at
-    send-at-requires
-    enum-told
-    returns-2
-    returns-3)
+    (tie.spec sender-at-requires returns cast-send-at send-at-requires is-none-requires returns-2)

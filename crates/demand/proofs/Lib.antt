@@ -1,0 +1,4 @@
+pub mod Meeting
+pub mod Chained
+pub mod Refusals
+pub mod Demand3

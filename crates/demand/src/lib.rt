@@ -1,0 +1,1 @@
+// Demand 3 over the calls' contracts, without code.

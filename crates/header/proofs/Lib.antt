@@ -1,0 +1,5 @@
+pub mod Filling
+pub mod Stored
+pub mod Heads
+pub mod Commands
+pub mod Running

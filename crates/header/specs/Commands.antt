@@ -1,0 +1,43 @@
+-- What a call does in a session over the machine that the buffers hold, their lengths being right: 41 to 43, or the call itself.
+use Prim.Native.Nat.{ℕ}
+use mathlib.Core.Path.{_≡_}
+use mathlib.Core.Bool.{Bool}
+use mathlib.Core.List.{List}
+use lib.Dec.{eqb, leb}
+use Rattle.logic.specs.Test.{_and_}
+use Rattle.model.specs.Network.{input}
+use Rattle.model.specs.Machine.{Memory}
+use Rattle.model.specs.Session.{lockstep, Head, Call, Lengths, Outcome, callCheck, replaced, meet}
+use Rattle.memory.specs.Memory.{memoryLength, memoryOf}
+use Rattle.tables.specs.Panel.{panelLength, signalsIn, kindIn, processorIn, slotIn}
+use Rattle.tables.specs.Program.{programLength}
+use Rattle.tables.specs.Tables.{networkIn, moduleIn}
+use Rattle.answers.specs.Answers.{callAnswer}
+use Rattle.header.specs.declared.Told.{Told}
+use Rattle.header.specs.Header.{headOf}
+
+-- the lengths that docs/PANEL.md gives
+abbrev pub fixed : Lengths
+fixed = record { panel = panelLength; program = programLength; memory = memoryLength }
+
+abbrev pub commanded : List ℕ → List ℕ → List ℕ → Head → Call → Outcome Memory
+commanded panel program memory head call =
+    let n = networkIn panel program in
+    meet fixed n (lockstep n (moduleIn panel program) (processorIn panel) (slotIn panel)) head (memoryOf memory) call
+    (callCheck n (head .finished) call)
+
+-- a signal of the network that the panel holds, and an input of it
+unfoldable pub signalIn : List ℕ → ℕ → Bool
+signalIn panel s = leb 1 s and leb s (signalsIn panel)
+
+unfoldable pub inputIn : List ℕ → ℕ → Bool
+inputIn panel s = signalIn panel s and eqb (kindIn panel s) input
+
+-- a head with a value in hand replaced
+abbrev pub withValue : Head → ℕ → ℕ → Head
+withValue h s v = record { finished = h .finished; hand = replaced (h .hand) s v; watch = h .watch }
+
+-- a command's answer and the session that it hands back are those of an outcome
+pub record Tells (o : Outcome Memory) (told : Told) : Type 0 where
+  pub answer : callAnswer (told .answer) ≡ o .answer
+  pub head : headOf (told .session) ≡ o .head

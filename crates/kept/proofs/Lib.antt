@@ -1,0 +1,5 @@
+pub mod Heads
+pub mod Panels
+pub mod Memories
+pub mod Outcomes
+pub mod Replies

@@ -1,0 +1,134 @@
+-- What a call over buffers in range leaves is in range: the head's numbers by 41, 42 and 43, the memory since a run is so many cycles.
+use Prim.Native.Nat.{ℕ, _+_, _≤_}
+use mathlib.Core.Path.{_≡_, refl, _∙_}
+use mathlib.Core.Bool.{Bool, true, false}
+use mathlib.Core.List.{List}
+use native.Mathlib.Omega.{arith}
+use lib.Dec.{eqb}
+use borrow.Author.Tests.{leb-true, ne-eqb}
+use Rattle.logic.proofs.Tests.{and-left, and-right}
+use Rattle.logic.specs.Choice.{if_then_else_}
+use Rattle.model.specs.Refusal.{Check, pass, fail}
+use Rattle.model.proofs.Refusals.{first-left, first-right, unless-true}
+use Rattle.model.specs.Network.{Network, Signal, isSignal}
+use Rattle.model.specs.Module.{Module, Laid}
+use Rattle.model.specs.Machine.{Memory, cycle}
+use Rattle.model.specs.Session.{Engine, lockstep, watched, Call, set, watch, read, run, replaced, Outcome, callCheck, lentCheck, running, perform, meet, outcome}
+use Rattle.model.proofs.Machine.{Small}
+use Rattle.model.proofs.Runs.{runs-exact}
+use Rattle.memory.specs.Memory.{memoryOf}
+use Rattle.tables.specs.Panel.{signalsIn, finishedIn, handIn, processorIn, slotIn}
+use Rattle.tables.specs.Tables.{networkIn, moduleIn}
+use Rattle.ranges.specs.Ranges.{ranged}
+use Rattle.ranges.proofs.Laid.{lines-laid}
+use Rattle.ranges.proofs.Ranged.{panel-in-range, program-in-range}
+use Rattle.header.specs.Header.{headIn}
+use Rattle.header.specs.Commands.{fixed}
+use Rattle.session.specs.Reply.{Buffers, lengthsOf, outcomeIn}
+use Rattle.kept.proofs.Panels.{InRange, head-in-range}
+use Rattle.kept.proofs.Memories.{small-in, run-small}
+
+-- an outcome in range. The cycles finished are at most 65535, "as every number of two bytes", where they were.
+pub record Kept (panel program : List ℕ) (o : Outcome Memory) : Type 0 where
+  pub head : InRange panel (o .head)
+  pub finished : finishedIn panel ≤ 65535 → o .head .finished ≤ 65535
+  pub state : Small (moduleIn panel program) (o .state)
+
+-- a value in hand replaced
+replaced-code : (hand : ℕ → ℕ) (s v x : ℕ) → v ≤ 3 → hand x ≤ 3 → replaced hand s v x ≤ 3
+unfolding replaced
+replaced-code hand s v x l h = go (eqb x s)
+  where
+    go : (t : Bool) → _≤_ (if t then v else hand x) 3
+    go true = l
+    go false = h
+
+replaced-else : (hand : ℕ → ℕ) (s v x : ℕ) → (x ≡ s → ⊥) → replaced hand s v x ≡ hand x
+unfolding replaced
+replaced-else hand s v x d = rw (ne-eqb x s d)
+
+-- 41
+known-signal : (panel program : List ℕ) (s : ℕ) → isSignal (networkIn panel program) s ≡ true → (1 ≤ s) × (s ≤ signalsIn panel)
+unfolding isSignal networkIn
+known-signal panel program s e = (leb-true 1 s (and-left _ _ e), leb-true s (signalsIn panel) (and-right _ _ e))
+
+module _ (b : Buffers) (r : ranged (b .panel) (b .program) (b .memory) ≡ true) where
+  abbrev panel : List ℕ
+  panel = b .panel
+
+  abbrev n : Network
+  n = networkIn (b .panel) (b .program)
+
+  abbrev m : Module
+  m = moduleIn (b .panel) (b .program)
+
+  abbrev E : Engine
+  E = lockstep n m (processorIn panel) (slotIn panel)
+
+  here : InRange panel (headIn panel)
+  here = head-in-range panel (panel-in-range (b .panel) (b .program) (b .memory) r)
+
+  small : Small m (memoryOf (b .memory))
+  small = small-in (b .panel) (b .program) (b .memory) r
+
+  laid : Laid n m
+  laid = lines-laid n m (program-in-range (b .panel) (b .program) (b .memory) r .lines)
+
+  codes : (s : ℕ) → Signal n s → handIn panel s ≤ 3
+  unfolding networkIn
+  codes s g = here .hands s (g .low) (g .high)
+
+  set-kept : (s v : ℕ) → 1 ≤ s → s ≤ signalsIn panel → v ≤ 3
+      → InRange panel (record { finished = finishedIn panel; hand = replaced (handIn panel) s v; watch = headIn panel .watch })
+  set-kept s v low high l =
+      record {
+        watched-low = here .watched-low;
+        watched-high = here .watched-high;
+        mask-high = here .mask-high;
+        hands = λ x a c. replaced-code (handIn panel) s v x l (here .hands x a c);
+        rest = λ x a c. replaced-else (handIn panel) s v x (λ q. omega arith) ∙ here .rest x a c;
+      }
+
+  perform-kept : (c : Call) → callCheck n (finishedIn panel) c ≡ pass
+      → Kept panel (b .program) (perform fixed n E (headIn panel) (memoryOf (b .memory)) c)
+  unfolding perform running callCheck
+  perform-kept (set s v) e =
+      let t = known-signal panel (b .program) s (and-left _ _ (unless-true _ _ _ (first-left _ _ e))) in
+      let l = leb-true v 3 (unless-true _ _ _ (first-right _ _ e)) in
+      record { head = set-kept s v (t .0) (t .1) l; finished = λ h. h; state = small }
+  perform-kept (watch s mask) e =
+      let t = known-signal panel (b .program) s (unless-true _ _ _ (first-left _ _ e)) in
+      let l = leb-true mask 15 (unless-true _ _ _ (first-right _ _ e)) in
+      record {
+        head = record { watched-low = t .0; watched-high = t .1; mask-high = l; hands = here .hands; rest = here .rest };
+        finished = λ h. h;
+        state = small;
+      }
+  perform-kept (read s) e = record { head = here; finished = λ h. h; state = small }
+  perform-kept (run k) e =
+      let l = leb-true (finishedIn panel + k) 65535 (unless-true _ _ _ e) in
+      let most = runs-exact (cycle n m (handIn panel)) stops k (memoryOf (b .memory)) .most in
+      record {
+        head =
+            record {
+              watched-low = here .watched-low;
+              watched-high = here .watched-high;
+              mask-high = here .mask-high;
+              hands = here .hands;
+              rest = here .rest;
+            };
+        finished = λ h. omega arith;
+        state = run-small panel (b .program) laid (handIn panel) codes stops k (memoryOf (b .memory)) small;
+      }
+    where
+      stops : Memory → Bool
+      stops y = watched (headIn panel .watch .mask) (E .value y (headIn panel .watch .signal))
+
+  pub outcome-kept : (c : Call) → Kept panel (b .program) (outcomeIn b c)
+  unfolding outcome meet lentCheck
+  outcome-kept c = go (lentCheck fixed n (finishedIn panel) (record { lengths = lengthsOf b; call = c })) refl
+    where
+      go : (k : Check) → lentCheck fixed n (finishedIn panel) (record { lengths = lengthsOf b; call = c }) ≡ k
+          → Kept panel (b .program) (meet fixed n E (headIn panel) (memoryOf (b .memory)) c k)
+      go pass e = perform-kept c (first-right _ _ e)
+      go (fail number returned) e = record { head = here; finished = λ h. h; state = small }

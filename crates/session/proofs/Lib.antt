@@ -1,0 +1,3 @@
+pub mod Judged
+pub mod Replies
+pub mod Refused

@@ -1,0 +1,50 @@
+use mathlib.Core.Path.{_∙_, ap}
+use Rattle.model.specs.Session.{Head, run}
+use Rattle.memory.specs.Memory.{held}
+use Rattle.tables.specs.Panel.{processorsIn, slotsIn}
+use Rattle.header.specs.Commands.{commanded}
+use Rattle.session.proofs.Replies.{writes}
+use borrow.Author.Needs.{needs}
+use Rattle.session.proofs.run_in.Statement.{statement}
+use Rattle.session.proofs.run_in.Tie as tie
+
+decode-requires : tie.Need-decode-requires
+decode-requires c κs = search needs
+
+run-requires : tie.Need-run-requires
+run-requires c κs = search needs
+
+encode-requires : tie.Need-encode-requires
+encode-requires c κs = search needs
+
+bits-requires : tie.Need-bits-requires
+bits-requires c κs = search needs
+
+same-length : tie.Need-same-length
+same-length c = search needs
+
+same-length-2 : tie.Need-same-length-2
+same-length-2 c = search needs
+
+returns : tie.Need-returns
+returns c =
+    let s = c .before .before .before .before .before .before .before .before .before .before .before .before .before .before .before .before in
+    let panel = s .args .panel .now in
+    let program = s .args .program .now in
+    let memory = s .args .memory .now in
+    let e = c .before .before .before .before .before .before .before .before .before .before .before .decode .ensures .0 in (
+      writes panel program memory _ _ e _ (c .before .before .before .before .before .before .before .before .run .ensures .0) _ _ (c .bits .ensures) (c .before .before .before .encode .ensures),
+      c .before .before .before .before .before .before .before .before .run .ensures .1 ∙ ap (λ (h : Head). held (processorsIn panel) (slotsIn panel) (commanded panel program memory h (run (s .args .cycles)) .state) memory) e,
+    )
+
+pub run-in-spec : {M : Type 1} → statement M
+run-in-spec =
+    tie.close
+    (tie.spec
+    decode-requires
+    run-requires
+    encode-requires
+    bits-requires
+    same-length
+    same-length-2
+    returns)

@@ -1,0 +1,25 @@
+-- What every call asks of the buffers first: 40, then 44 (01, Refusals). What a command then answers and writes.
+use Prim.Native.Nat.{ℕ}
+use mathlib.Core.Path.{_≡_}
+use mathlib.Core.List.{List}
+use Rattle.logic.specs.Choice.{if_then_else_}
+use Rattle.model.specs.Machine.{Memory}
+use Rattle.model.specs.Session.{sameLengths, Outcome}
+use Rattle.ranges.specs.Ranges.{ranged}
+use Rattle.answers.specs.Answers.{answerBits}
+use Rattle.header.specs.Header.{withHead}
+use Rattle.header.specs.Commands.{fixed}
+use Rattle.session.specs.declared.Ready.{Ready}
+use Rattle.session.specs.declared.Ready.the-variants.{Right, WrongLength, OutOfRange}
+use Rattle.session.specs.Reply.{Buffers, lengthsOf}
+
+unfoldable pub readyOf : Buffers → Ready
+readyOf b =
+    if sameLengths (lengthsOf b) fixed then
+    (if ranged (b .panel) (b .program) (b .memory) then Right else OutOfRange) else
+    WrongLength
+
+-- the bits that a call answers, and the panel that it leaves, are those of an outcome
+pub record Writes (o : Outcome Memory) (panel : List ℕ) (bits : ℕ) (left : List ℕ) : Type 0 where
+  pub answer : bits ≡ answerBits (o .answer)
+  pub written : left ≡ withHead (o .head) panel

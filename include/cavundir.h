@@ -1,0 +1,128 @@
+/* cavundir.h: the calls of Cavundir, a lockstep logic simulator, for a front panel in C or C++.
+ *
+ * A session lives in three working buffers that the panel owns and lends to every call: panel, program and memory. Each
+ * has one fixed length. The calls keep nothing else: a session is its buffers, and a copy of them is a session too.
+ *
+ * A buffer is handed over as a pointer and a length in bytes. The buffers of one call must not overlap. A null pointer
+ * is allowed with length 0; as NET, MOD or STIM that is a file that is absent. The bytes of a file are only read.
+ *
+ * Every call gives one number, its answer, which the functions at the end take apart:
+ *
+ *     uint64_t answer = cavundir_run(panel, sizeof panel, program, sizeof program, memory, sizeof memory, 100);
+ *     if (cavundir_refusal(answer) != CAVUNDIR_NOT_REFUSED)
+ *         printf("refused: %u, %" PRIu32 "\n", cavundir_refusal(answer), cavundir_returned(answer));
+ *
+ * docs/PANEL.md says what every byte of the working buffers holds; no call needs it.
+ */
+#ifndef CAVUNDIR_H
+#define CAVUNDIR_H
+
+#include <stdbool.h>
+#include <stddef.h>
+#include <stdint.h>
+
+#ifdef __cplusplus
+extern "C" {
+#endif
+
+/* The lengths of the working buffers. With any other length a call is refused. */
+#define CAVUNDIR_PANEL_BYTES 40970
+#define CAVUNDIR_PROGRAM_BYTES 53248
+#define CAVUNDIR_MEMORY_BYTES 20480
+
+/* The numbers of the refusals, and what each returns. Lines are counted from 1. */
+enum cavundir_number {
+    CAVUNDIR_NOT_REFUSED = 0,
+
+    /* by the opening, of a file; the returned value is a line, or the smallest such signal */
+    CAVUNDIR_NET_MISFORMED = 10,    /* line: misformed, missing or surplus */
+    CAVUNDIR_NET_LAYOUT = 11,       /* line: a value, a fixed zero or the order is wrong */
+    CAVUNDIR_NET_SOURCE = 12,       /* line: a source above N, or source 0 with a translation above 3 */
+    CAVUNDIR_NET_CLOSED_CHAIN = 13, /* signal: a closed chain of rank-order gates runs through it */
+    CAVUNDIR_MOD_MISFORMED = 20,    /* line: misformed, missing or surplus */
+    CAVUNDIR_MOD_LAYOUT = 21,       /* line: a value, a fixed zero or the order is wrong */
+    CAVUNDIR_MOD_PLACED = 22,       /* signal: not placed exactly once */
+    CAVUNDIR_MOD_OPERAND = 23,      /* line: an operand isn't right */
+    CAVUNDIR_MOD_SEND = 24,         /* line: sends an empty slot's location, or part 1 from its own slot or above */
+    CAVUNDIR_MOD_RECEIVE = 25,      /* line: receives from a processor that sends none in that slot */
+    CAVUNDIR_STIM_MISFORMED = 30,   /* line: misformed, missing or surplus */
+    CAVUNDIR_STIM_LAYOUT = 31,      /* line: a value, a fixed zero or the order is wrong */
+    CAVUNDIR_STIM_NO_INPUT = 32,    /* line: a time after 0 on a signal that is no input */
+
+    /* by any call */
+    CAVUNDIR_LENGTH = 40,           /* 0: a working buffer has a wrong length */
+
+    /* by set, watch, read and run */
+    CAVUNDIR_SIGNAL = 41,           /* the signal given: 0 or above N, or set on a gate */
+    CAVUNDIR_VALUE = 42,            /* the value given: above 3, or a mask above 15 */
+    CAVUNDIR_CYCLES = 43,           /* the cycles finished: these and the cycles given exceed 65535 */
+    CAVUNDIR_DAMAGED = 44           /* 0: no session is in the buffers, or a number in them is out of range */
+};
+
+/* Opens a session on the bytes of the three files: 0 cycles finished, every signal at its value of time 0, the watch on
+ * signal 1 with mask 0. All bytes of the working buffers are written, whatever was in them. Where it is refused, every
+ * working buffer is left all zero, a buffer of a wrong length too. */
+uint64_t cavundir_open(const uint8_t *net, size_t net_bytes,
+                       const uint8_t *mod, size_t mod_bytes,
+                       const uint8_t *stim, size_t stim_bytes,
+                       uint8_t *panel, size_t panel_bytes,
+                       uint8_t *program, size_t program_bytes,
+                       uint8_t *memory, size_t memory_bytes);
+
+/* The four calls below change no byte where they are refused. A value is 0, 1, 2 (U, undefined) or 3 (Z, floating). */
+
+/* Sets an input for the next cycle, and for those after it until it is set again. Of several settings before a cycle
+ * the last counts. */
+uint64_t cavundir_set(uint8_t *panel, size_t panel_bytes,
+                      const uint8_t *program, size_t program_bytes,
+                      const uint8_t *memory, size_t memory_bytes,
+                      uint32_t signal, uint32_t value);
+
+/* Sets the one watch: a run stops after a cycle at whose end the signal has a value v with bit v (of weight 2^v) in the
+ * mask. Mask 0 watches nothing. */
+uint64_t cavundir_watch(uint8_t *panel, size_t panel_bytes,
+                        const uint8_t *program, size_t program_bytes,
+                        const uint8_t *memory, size_t memory_bytes,
+                        uint32_t signal, uint32_t mask);
+
+/* Reads a signal: the returned value is its value at the end of the last finished cycle. */
+uint64_t cavundir_read(const uint8_t *panel, size_t panel_bytes,
+                       const uint8_t *program, size_t program_bytes,
+                       const uint8_t *memory, size_t memory_bytes,
+                       uint32_t signal);
+
+/* Runs so many cycles, or fewer where the watch stops it. A session has at most 65535 cycles. */
+uint64_t cavundir_run(uint8_t *panel, size_t panel_bytes,
+                      const uint8_t *program, size_t program_bytes,
+                      uint8_t *memory, size_t memory_bytes,
+                      uint32_t cycles);
+
+/* The refusal's number, one of enum cavundir_number; 0 where the call was not refused. */
+static inline unsigned cavundir_refusal(uint64_t answer)
+{
+    return (unsigned)(answer >> 56);
+}
+
+/* What a refusal returns, or the value that was read. */
+static inline uint32_t cavundir_returned(uint64_t answer)
+{
+    return (uint32_t)answer;
+}
+
+/* Of a run that was not refused: the cycles it did. */
+static inline unsigned cavundir_cycles(uint64_t answer)
+{
+    return (unsigned)(answer & 0xFFFF);
+}
+
+/* Of a run that was not refused: whether its last cycle shows a watched value. A run of 0 cycles is not stopped. */
+static inline bool cavundir_stopped(uint64_t answer)
+{
+    return (answer >> 16 & 1) != 0;
+}
+
+#ifdef __cplusplus
+}
+#endif
+
+#endif
