@@ -19,7 +19,7 @@ pub enum FileAnswer {
 }
 
 // NET's answer, number by number.
-fn net_answer(answer: NetAnswer) -> FileAnswer
+pub fn net_answer(answer: NetAnswer) -> FileAnswer
     ensures { λ r. ⌜ fileRefusal r ≡ netRefusal answer ⌝ }
 {
     match answer {
@@ -32,7 +32,7 @@ fn net_answer(answer: NetAnswer) -> FileAnswer
 }
 
 // MOD's answer, number by number.
-fn mod_answer(answer: ModAnswer) -> FileAnswer
+pub fn mod_answer(answer: ModAnswer) -> FileAnswer
     ensures { λ r. ⌜ fileRefusal r ≡ modRefusal answer ⌝ }
 {
     match answer {
@@ -47,7 +47,7 @@ fn mod_answer(answer: ModAnswer) -> FileAnswer
 }
 
 // STIM's answer, number by number.
-fn stim_answer(answer: StimAnswer) -> FileAnswer
+pub fn stim_answer(answer: StimAnswer) -> FileAnswer
     ensures { λ r. ⌜ fileRefusal r ≡ stimRefusal answer ⌝ }
 {
     match answer {

@@ -16,6 +16,7 @@ use Rattle.model.specs.Session.{runs, ticks, watched}
 use Rattle.model.specs.Acceptance.{panelLimit, networkOf, scheduleOf, givenOf, Accepted}
 use Rattle.model.specs.Demands.{Places}
 use Rattle.model.proofs.Conditions.{Formed, Acyclic, Scheduled}
+use Rattle.model.proofs.Value.{SameInputs}
 use Rattle.model.proofs.Machine.{Near, near-refl}
 use Rattle.model.proofs.Keeping.{Kept, kept-cycle, kept-places, kept-near, kept-opening}
 use Rattle.model.proofs.Runs.{runs-exact}
@@ -66,13 +67,13 @@ module _ (files : Files) (accepted : Accepted panelLimit files) where
         subst (λ (c : ℕ). Near m (memoryOf (held (processorsIn panel) c w old)) w) (sym (holding .lines .slots))
         (subst (λ (p : ℕ). Near m (memoryOf (held p (m .slots) w old)) w) (sym (holding .lines .processors)) (held-near m few short w old))
 
-    -- the tables' machine keeps step
-    cycle-kept : (w : Memory) (rows : List (ℕ → ℕ)) → Kept formed acyclic ok (givenOf files) w rows
-        → Kept formed acyclic ok (givenOf files) (cycleIn panel program w) (handIn panel ∷ rows)
-    cycle-kept w rows k =
-        kept-near formed acyclic ok (givenOf files) (cycleIn panel program w) (cycle n m (handIn panel) w) (handIn panel ∷ rows)
+    -- the tables' machine keeps step, with rows that have the inputs' values in hand
+    cycle-kept : (row : ℕ → ℕ) → SameInputs n (handIn panel) row → (w : Memory) (rows : List (ℕ → ℕ))
+        → Kept formed acyclic ok (givenOf files) w rows → Kept formed acyclic ok (givenOf files) (cycleIn panel program w) (row ∷ rows)
+    cycle-kept row same w rows k =
+        kept-near formed acyclic ok (givenOf files) (cycleIn panel program w) (cycle n m (handIn panel) w) (row ∷ rows)
         (cycle-same (networkIn panel program) (holding .lines) (ok .laid) (holding .signals .kinds) (holding .signals .gates) (handIn panel) near-self)
-        (kept-cycle formed acyclic ok (givenOf files) (handIn panel) (handIn panel) (λ s g i. refl) w rows k)
+        (kept-cycle formed acyclic ok (givenOf files) (handIn panel) row same w rows k)
       where
         near-self : Near m w w
         near-self = near-refl
@@ -81,7 +82,7 @@ module _ (files : Files) (accepted : Accepted panelLimit files) where
         → Kept formed acyclic ok (givenOf files) (ticks (cycleIn panel program) j w) (ticks (λ r. handIn panel ∷ r) j rows)
     unfolding ticks
     ticks-kept zero w rows k = k
-    ticks-kept (suc j) w rows k = ticks-kept j (cycleIn panel program w) (handIn panel ∷ rows) (cycle-kept w rows k)
+    ticks-kept (suc j) w rows k = ticks-kept j (cycleIn panel program w) (handIn panel ∷ rows) (cycle-kept (handIn panel) (λ s g i. refl) w rows k)
 
     written-kept : (w : Memory) (old : List ℕ) (rows : List (ℕ → ℕ)) → Kept formed acyclic ok (givenOf files) w rows
         → Holds (held (processorsIn panel) (slotsIn panel) w old) rows
@@ -89,11 +90,11 @@ module _ (files : Files) (accepted : Accepted panelLimit files) where
         kept-near formed acyclic ok (givenOf files) (memoryOf (held (processorsIn panel) (slotsIn panel) w old)) w rows (written-near w old) k
 
     -- one cycle, as its contract leaves the bytes
-    pub cycle-holds : (bytes left : List ℕ) (rows : List (ℕ → ℕ)) → Holds bytes rows
-        → left ≡ held (processorsIn panel) (slotsIn panel) (cycleIn panel program (memoryOf bytes)) bytes → Holds left (handIn panel ∷ rows)
-    cycle-holds bytes left rows k e =
-        subst (λ (l : List ℕ). Holds l (handIn panel ∷ rows)) (sym e)
-        (written-kept (cycleIn panel program (memoryOf bytes)) bytes (handIn panel ∷ rows) (cycle-kept (memoryOf bytes) rows k))
+    pub cycle-holds : (bytes left : List ℕ) (row : ℕ → ℕ) (rows : List (ℕ → ℕ)) → SameInputs n (handIn panel) row → Holds bytes rows
+        → left ≡ held (processorsIn panel) (slotsIn panel) (cycleIn panel program (memoryOf bytes)) bytes → Holds left (row ∷ rows)
+    cycle-holds bytes left row rows same k e =
+        subst (λ (l : List ℕ). Holds l (row ∷ rows)) (sym e)
+        (written-kept (cycleIn panel program (memoryOf bytes)) bytes (row ∷ rows) (cycle-kept row same (memoryOf bytes) rows k))
 
     -- inside a run: the memory after its j-th cycle
     pub inside-holds : (bytes : List ℕ) (rows : List (ℕ → ℕ)) (j : ℕ) → Holds bytes rows

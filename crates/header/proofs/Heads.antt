@@ -23,7 +23,7 @@ same-head t u f g s r m k a b c d =
     ∙ ap (λ (x : ℕ). headWith u g x m) c ∙ ap (λ (x : ℕ). headWith u g r x) d
 
 -- past the end of a list there is nothing
-past-end : (l : List ℕ) (k : ℕ) → length l ≤ k → getD l k 0 ≡ 0
+pub past-end : (l : List ℕ) (k : ℕ) → length l ≤ k → getD l k 0 ≡ 0
 past-end [] k h = refl
 past-end (x ∷ l) zero h = absurd (omega arith)
 past-end (x ∷ l) (suc k) h = past-end l k (omega arith)

@@ -26,7 +26,7 @@ module _ (h : Head) (panel : List ℕ) where
       ∙ ap (λ (x : ℕ). headByte h panel row x) f
 
   -- the session's ten
-  session-byte : (a : ℕ) → a < 10 → getD (withHead h panel) a 0 ≡ getD (headBytes h panel) a 0
+  pub session-byte : (a : ℕ) → a < 10 → getD (withHead h panel) a 0 ≡ getD (headBytes h panel) a 0
   unfolding headByte
   session-byte a l = byte-at a 0 a (omega arith) (omega arith) (omega arith)
 

@@ -1,19 +1,17 @@
 -- What a call over buffers in range leaves is in range: the head's numbers by 41, 42 and 43, the memory since a run is so many cycles.
 use Prim.Native.Nat.{ℕ, _+_, _≤_}
-use mathlib.Core.Path.{_≡_, refl, _∙_}
-use mathlib.Core.Bool.{Bool, true, false}
+use mathlib.Core.Path.{_≡_, refl}
+use mathlib.Core.Bool.{Bool, true}
 use mathlib.Core.List.{List}
 use native.Mathlib.Omega.{arith}
-use lib.Dec.{eqb}
-use borrow.Author.Tests.{leb-true, ne-eqb}
+use borrow.Author.Tests.{leb-true}
 use Rattle.logic.proofs.Tests.{and-left, and-right}
-use Rattle.logic.specs.Choice.{if_then_else_}
 use Rattle.model.specs.Refusal.{Check, pass, fail}
 use Rattle.model.proofs.Refusals.{first-left, first-right, unless-true}
 use Rattle.model.specs.Network.{Network, Signal, isSignal}
 use Rattle.model.specs.Module.{Module, Laid}
 use Rattle.model.specs.Machine.{Memory, cycle}
-use Rattle.model.specs.Session.{Engine, lockstep, watched, Call, set, watch, read, run, replaced, Outcome, callCheck, lentCheck, running, perform, meet, outcome}
+use Rattle.model.specs.Session.{Engine, lockstep, watched, Call, set, watch, read, run, Outcome, callCheck, lentCheck, running, perform, meet, outcome}
 use Rattle.model.proofs.Machine.{Small}
 use Rattle.model.proofs.Runs.{runs-exact}
 use Rattle.memory.specs.Memory.{memoryOf}
@@ -25,7 +23,7 @@ use Rattle.ranges.proofs.Ranged.{panel-in-range, program-in-range}
 use Rattle.header.specs.Header.{headIn}
 use Rattle.header.specs.Commands.{fixed}
 use Rattle.session.specs.Reply.{Buffers, lengthsOf, outcomeIn}
-use Rattle.kept.proofs.Panels.{InRange, head-in-range}
+use Rattle.kept.proofs.Panels.{InRange, head-in-range, with-value-in-range}
 use Rattle.kept.proofs.Memories.{small-in, run-small}
 
 -- an outcome in range. The cycles finished are at most 65535, "as every number of two bytes", where they were.
@@ -33,19 +31,6 @@ pub record Kept (panel program : List ℕ) (o : Outcome Memory) : Type 0 where
   pub head : InRange panel (o .head)
   pub finished : finishedIn panel ≤ 65535 → o .head .finished ≤ 65535
   pub state : Small (moduleIn panel program) (o .state)
-
--- a value in hand replaced
-replaced-code : (hand : ℕ → ℕ) (s v x : ℕ) → v ≤ 3 → hand x ≤ 3 → replaced hand s v x ≤ 3
-unfolding replaced
-replaced-code hand s v x l h = go (eqb x s)
-  where
-    go : (t : Bool) → _≤_ (if t then v else hand x) 3
-    go true = l
-    go false = h
-
-replaced-else : (hand : ℕ → ℕ) (s v x : ℕ) → (x ≡ s → ⊥) → replaced hand s v x ≡ hand x
-unfolding replaced
-replaced-else hand s v x d = rw (ne-eqb x s d)
 
 -- 41
 known-signal : (panel program : List ℕ) (s : ℕ) → isSignal (networkIn panel program) s ≡ true → (1 ≤ s) × (s ≤ signalsIn panel)
@@ -78,24 +63,13 @@ module _ (b : Buffers) (r : ranged (b .panel) (b .program) (b .memory) ≡ true)
   unfolding networkIn
   codes s g = here .hands s (g .low) (g .high)
 
-  set-kept : (s v : ℕ) → 1 ≤ s → s ≤ signalsIn panel → v ≤ 3
-      → InRange panel (record { finished = finishedIn panel; hand = replaced (handIn panel) s v; watch = headIn panel .watch })
-  set-kept s v low high l =
-      record {
-        watched-low = here .watched-low;
-        watched-high = here .watched-high;
-        mask-high = here .mask-high;
-        hands = λ x a c. replaced-code (handIn panel) s v x l (here .hands x a c);
-        rest = λ x a c. replaced-else (handIn panel) s v x (λ q. omega arith) ∙ here .rest x a c;
-      }
-
   perform-kept : (c : Call) → callCheck n (finishedIn panel) c ≡ pass
       → Kept panel (b .program) (perform fixed n E (headIn panel) (memoryOf (b .memory)) c)
   unfolding perform running callCheck
   perform-kept (set s v) e =
       let t = known-signal panel (b .program) s (and-left _ _ (unless-true _ _ _ (first-left _ _ e))) in
       let l = leb-true v 3 (unless-true _ _ _ (first-right _ _ e)) in
-      record { head = set-kept s v (t .0) (t .1) l; finished = λ h. h; state = small }
+      record { head = with-value-in-range panel (headIn panel) here s v (t .1) l; finished = λ h. h; state = small }
   perform-kept (watch s mask) e =
       let t = known-signal panel (b .program) s (unless-true _ _ _ (first-left _ _ e)) in
       let l = leb-true mask 15 (unless-true _ _ _ (first-right _ _ e)) in

@@ -6,15 +6,17 @@ use mathlib.Core.List.{List}
 use native.Mathlib.Omega.{arith}
 use lib.Dec.{eqb}
 use lib.ListN.{getD}
-use borrow.Author.Tests.{eqb-true, eqb-false}
+use borrow.Author.Tests.{eqb-true, eqb-false, ne-eqb}
+use Rattle.logic.specs.Choice.{if_then_else_}
 use Rattle.gates.specs.Translation.{isTranslation}
 use Rattle.gates.specs.Function.{isFunction}
 use Rattle.model.specs.Network.{input}
 use Rattle.model.specs.Module.{Module, At}
-use Rattle.model.specs.Session.{Head}
+use Rattle.model.specs.Session.{Head, replaced}
 use Rattle.tables.specs.Panel.{panelLength, signalsIn, kindIn}
 use Rattle.tables.specs.Tables.{networkIn, moduleIn}
 use Rattle.header.specs.Header.{headIn, withHead}
+use Rattle.header.specs.Commands.{withValue}
 use Rattle.ranges.specs.Ranges.{codesRanged}
 use Rattle.ranges.proofs.Numbers.{Numbers, Panel, input-zeros, zeros-input, supplied-gate, codes-function, codes-translation}
 use Rattle.ranges.proofs.Laid.{Line}
@@ -38,6 +40,29 @@ head-in-range panel r =
       mask-high = r .head .mask-high;
       hands = λ s low high. r .signals s low high .hand-high;
       rest = λ s low high. r .rest (10 * s + 7) (omega arith) (omega arith);
+    }
+
+-- a value in hand replaced
+replaced-code : (hand : ℕ → ℕ) (s v x : ℕ) → v ≤ 3 → hand x ≤ 3 → replaced hand s v x ≤ 3
+unfolding replaced
+replaced-code hand s v x l h = go (eqb x s)
+  where
+    go : (t : Bool) → _≤_ (if t then v else hand x) 3
+    go true = l
+    go false = h
+
+pub replaced-else : (hand : ℕ → ℕ) (s v x : ℕ) → (x ≡ s → ⊥) → replaced hand s v x ≡ hand x
+unfolding replaced
+replaced-else hand s v x d = rw (ne-eqb x s d)
+
+pub with-value-in-range : (panel : List ℕ) (h : Head) → InRange panel h → (s v : ℕ) → s ≤ signalsIn panel → v ≤ 3 → InRange panel (withValue h s v)
+with-value-in-range panel h good s v high l =
+    record {
+      watched-low = good .watched-low;
+      watched-high = good .watched-high;
+      mask-high = good .mask-high;
+      hands = λ x a c. replaced-code (h .hand) s v x l (good .hands x a c);
+      rest = λ x a c. replaced-else (h .hand) s v x (λ q. omega arith) ∙ good .rest x a c;
     }
 
 module _ (h : Head) (panel : List ℕ) where

@@ -1,35 +1,27 @@
 -- 44 never comes in a session: every call leaves working buffers that are of their lengths and in range so, and tables that hold a
 -- network and a module still hold them.
 use Prim.Native.Nat.{ℕ, _≤_}
-use mathlib.Core.Path.{_≡_, refl, sym, subst, _∙_}
+use mathlib.Core.Path.{_≡_, refl, sym, subst}
 use mathlib.Core.Bool.{Bool, true, false}
-use mathlib.Core.List.{List}
-use native.Mathlib.Omega.{arith}
 use borrow.Author.Tests.{eq-eqb}
 use Rattle.logic.proofs.Tests.{and-true, and-left, and-right}
-use Rattle.model.specs.Network.{Network, Signal}
+use Rattle.model.specs.Network.{Network}
 use Rattle.model.specs.Module.{Module}
-use Rattle.model.specs.Session.{Head, Call, sameLengths}
+use Rattle.model.specs.Session.{Call, sameLengths}
 use Rattle.memory.specs.Memory.{memoryLength, within}
 use Rattle.memory.proofs.Written.{written-length}
-use Rattle.tables.specs.Panel.{panelLength, signalsIn, processorsIn, slotsIn, finishedIn}
-use Rattle.tables.specs.Tables.{networkIn}
-use Rattle.tables.specs.Holding.{SameLines, SameGates, Holding}
+use Rattle.tables.specs.Panel.{panelLength, processorsIn, slotsIn, finishedIn}
+use Rattle.tables.specs.Holding.{Holding}
 use Rattle.ranges.specs.Ranges.{ranged}
 use Rattle.ranges.proofs.Ranged.{Values, is-ranged, panel-in-range, program-in-range, memory-in-range, head-ranged}
 use Rattle.header.specs.Header.{withHead}
 use Rattle.header.specs.Commands.{fixed}
 use Rattle.session.specs.Reply.{Buffers, lengthsOf, outcomeIn, leaving, reply}
-use Rattle.kept.proofs.Heads.{with-head-length, with-head-processors, with-head-slots, with-head-finished, with-head-processor, with-head-slot, with-head-module, with-head-size, with-head-network-kind, with-head-gate}
+use Rattle.kept.proofs.Heads.{with-head-length, with-head-processors, with-head-slots, with-head-finished}
+use Rattle.kept.proofs.Holding.{with-head-holding}
 use Rattle.kept.proofs.Panels.{with-head-panel, with-head-program}
 use Rattle.kept.proofs.Memories.{held-values}
 use Rattle.kept.proofs.Outcomes.{outcome-kept}
-
--- a signal of the network that the tables hold is one of 4096
-signal-high : (panel program : List ℕ) (n : Network) (s : ℕ) → signalsIn panel ≤ 4096 → SameGates (networkIn panel program) n → Signal n s
-    → s ≤ 4096
-unfolding networkIn
-signal-high panel program n s high same g = let e = same .size in let l = g .high in omega arith
 
 module _ (b : Buffers) (c : Call) (lent : sameLengths (lengthsOf b) fixed ≡ true) where
   -- where 44 does not come, a call leaves its outcome
@@ -94,26 +86,8 @@ module _ (b : Buffers) (c : Call) (lent : sameLengths (lengthsOf b) fixed ≡ tr
     module _ {n : Network} {m : Module} (holding : Holding n m (b .panel) (b .program)) where
       left-holding : Holding n m (leaving b (outcomeIn b c) .panel) (b .program)
       left-holding =
-          record {
-            lines = subst (λ (x : Module). SameLines x m) (sym (with-head-module h (b .panel) (b .program))) (holding .lines);
-            signals =
-                record {
-                  size = with-head-size h (b .panel) (b .program) ∙ holding .signals .size;
-                  kinds = λ s g. with-head-network-kind h (b .panel) (b .program) s (g .low) (high s g) ∙ holding .signals .kinds s g;
-                  gates = λ s g. with-head-gate h (b .panel) (b .program) s (g .low) (high s g) ∙ holding .signals .gates s g;
-                };
-            places = λ s g.
-                record {
-                  at = rw (with-head-processor h (b .panel) s (g .low) (high s g), with-head-slot h (b .panel) s (g .low) (high s g)) (holding .places s g .at);
-                  is = rw (with-head-processor h (b .panel) s (g .low) (high s g), with-head-slot h (b .panel) s (g .low) (high s g)) (holding .places s g .is);
-                };
-          }
-        where
-          h : Head
-          h = outcomeIn b c .head
-
-          high : (s : ℕ) → Signal n s → s ≤ 4096
-          high s g = signal-high (b .panel) (b .program) n s (head-ranged (b .panel) (b .program) (b .memory) r .signals-high) (holding .signals) g
+          with-head-holding (outcomeIn b c .head) (b .panel) (b .program)
+          (head-ranged (b .panel) (b .program) (b .memory) r .signals-high) holding
 
       pub reply-holding : Holding n m (reply b c .buffers .panel) (reply b c .buffers .program)
       reply-holding = subst (λ (d : Buffers). Holding n m (d .panel) (d .program)) (sym (leaves r)) left-holding

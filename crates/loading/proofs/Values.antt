@@ -1,17 +1,15 @@
 -- The time 0 values: U at first, then as STIM's lines of time 0 give them; the lines after the first later one add nothing.
-use Prim.Native.Nat.{ℕ, suc, _+_, _<_, _≤_}
+use Prim.Native.Nat.{ℕ, _+_, _<_, _≤_}
 use mathlib.Core.Path.{_≡_, refl, sym, _∙_, ap}
-use mathlib.Core.Bool.{Bool, true, false}
+use mathlib.Core.Bool.{true}
 use mathlib.Core.List.{List}
 use native.Mathlib.Omega.{arith}
-use native.Mathlib.Decide.{ℕ-discrete, le-ind}
+use native.Mathlib.Decide.{ℕ-discrete}
 use native.Mathlib.Numerals.{add-one}
-use lib.Dec.{eqb}
 use lib.ListN.{length, getD, set, length-set}
 use lib.Seq.{getD-set-same, getD-set-other}
 use borrow.Author.Tests.{eq-eqb, ne-eqb, le-leb, lt-leb}
 use Rattle.logic.specs.Test.{_and_}
-use Rattle.logic.specs.Choice.{if_then_else_}
 use Rattle.logic.specs.Listed.{listed}
 use Rattle.logic.proofs.Listed.{listed-length, listed-at, is-listed}
 use Rattle.logic.proofs.Tests.{and-true}
@@ -20,9 +18,10 @@ use Rattle.model.specs.Network.{isSignal}
 use Rattle.model.specs.Netlist.{network, netSize, netCheck}
 use Rattle.model.specs.Value.{start}
 use Rattle.model.specs.Stimulus.{stimTime, stimSignal, stimValue, stimCheck, stimCount, lastGiven, held}
-use Rattle.model.proofs.Accepted.{stim-right, times-rise, net-size}
+use Rattle.model.proofs.Accepted.{stim-right, net-size}
 use Rattle.stimulus.specs.declared.Cursor.{Cursor}
 use Rattle.stimulus.proofs.Steps.{GivenAt}
+use Rattle.stimulus.proofs.Passed.{nothing-later}
 use Rattle.loading.specs.Loaded.{timeZero}
 use Rattle.loading.specs.Values.{undefinedTo, givenBelow}
 
@@ -109,24 +108,6 @@ module _ (net stim : List ℕ) where
           at s b (yes e) = rw e (getD-set-same values signal value 0 signal-there ∙ sym there)
           at s b (no d) = getD-set-other values signal s value 0 d ∙ so-far .given s b ∙ elsewhere s d
 
-    -- the lines from a later one on
-    nothing-later : (line : ℕ) → line ≤ stimCount stim → (line < stimCount stim → 0 < stimTime stim line) → (s k : ℕ) → line ≤ k
-        → k ≤ stimCount stim → lastGiven stim 0 s k ≡ lastGiven stim 0 s line
-    unfolding lastGiven _and_
-    nothing-later line low later s k l =
-        le-ind (λ (x : ℕ). x ≤ stimCount stim → lastGiven stim 0 s x ≡ lastGiven stim 0 s line) (λ h. refl)
-        (λ x m before h. step x m h ∙ before (omega arith)) k l
-      where
-        step : (x : ℕ) → line ≤ x → suc x ≤ stimCount stim → lastGiven stim 0 s (suc x) ≡ lastGiven stim 0 s x
-        step x m h =
-            let right = stim-right (network net) stim passes in
-            let above : 0 < stimTime stim x = omega (arith, later (omega arith), times-rise (network net) stim right line x m (omega arith)) in
-            rw (lt-leb (stimTime stim x) 0 above) (go (eqb (stimSignal stim x) s))
-          where
-            go : (b : Bool) → (if b and false then stimValue stim x else lastGiven stim 0 s x) ≡ lastGiven stim 0 s x
-            go true = refl
-            go false = refl
-
     pub given-ends : {line : ℕ} {values : List ℕ} → GivenTo net stim line values → (line < stimCount stim → 0 < stimTime stim line)
         → values ≡ listed 4097 (timeZero net stim)
     unfolding givenBelow timeZero start held
@@ -134,4 +115,4 @@ module _ (net stim : List ℕ) where
         is-listed values 4097 _ (so-far .size) (λ s b. so-far .given s b ∙ same s)
       where
         same : (s : ℕ) → givenBelow net stim line s ≡ timeZero net stim s
-        same s = rw (nothing-later line (so-far .low) later s (stimCount stim) (so-far .low) (omega arith))
+        same s = rw (nothing-later (network net) stim passes 0 line later s (stimCount stim) (so-far .low) (omega arith))

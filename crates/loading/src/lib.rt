@@ -19,13 +19,13 @@ ghost use Rattle.loading.specs.Values.{undefinedTo, valueIn, sentValue, 
 use stimulus::Cursor;
 use stimulus::Step;
 
-// A buffer all zero.
-pub fn clear(bytes: &mut [u8])
-    ensures { λ _. ⌜ now (bytes .exit) ≡ listed (length (now (bytes .entry))) (λ a. 0) ⌝ }
+// A buffer that holds one value throughout.
+pub fn fill(bytes: &mut [u8], value: u8)
+    ensures { λ _. ⌜ now (bytes .exit) ≡ listed (length (now (bytes .entry))) (λ a. value) ⌝ }
 {
     let mut a: usize = 0;
     while a < bytes.len() {
-        bytes[a] = 0;
+        bytes[a] = value;
         a += 1;
     }
 }

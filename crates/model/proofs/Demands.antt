@@ -33,7 +33,7 @@ unfolding netCheck
 net-acyclic limit net h = chains-pass net (first-right (netSurplus net) (netChains net) (first-right _ _ (first-right _ _ h)))
 
 -- a listing depends on the values of the signals alone
-joined-same : (n : ℕ) (f g : ℕ → List ℕ) → ((k : ℕ) → suc k ≤ n → f k ≡ g k) → joined n f ≡ joined n g
+pub joined-same : (n : ℕ) (f g : ℕ → List ℕ) → ((k : ℕ) → suc k ≤ n → f k ≡ g k) → joined n f ≡ joined n g
 unfolding joined
 joined-same zero f g h = refl
 joined-same (suc n) f g h = rw (joined-same n f g (λ k l. h k (omega arith)), h n (omega arith))

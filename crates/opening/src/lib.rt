@@ -27,9 +27,9 @@ fn clear_all(panel: &mut [u8], program: &mut [u8], memory: &mut [u8])
     ensures { λ _. ⌜ now (program .exit) ≡ cleared (length (now (program .entry))) ⌝ }
     ensures { λ _. ⌜ now (memory .exit) ≡ cleared (length (now (memory .entry))) ⌝ }
 {
-    loading::clear(panel);
-    loading::clear(program);
-    loading::clear(memory);
+    loading::fill(panel, 0);
+    loading::fill(program, 0);
+    loading::fill(memory, 0);
 }
 
 // "A refused opening leaves the working buffers all zero, as far as they were lent to it."

@@ -2,7 +2,6 @@
 use Prim.Native.Nat.{ℕ, _≤_, _<_}
 use mathlib.Core.Path.{_≡_, refl, sym, _∙_, ap}
 use mathlib.Core.Bool.{Bool, true, false, false≢true}
-use native.Mathlib.Omega.{arith}
 use lib.ListN.{length}
 use borrow.Author.Tests.{eqb-true, eq-eqb, ne-eqb}
 use Rattle.logic.specs.Test.{_and_}
@@ -10,10 +9,10 @@ use Rattle.logic.specs.Choice.{if_then_else_}
 use Rattle.logic.proofs.Tests.{and-left, and-right}
 use Rattle.model.specs.Session.{sameLengths}
 use Rattle.memory.specs.Memory.{memoryLength, MemoryBytes}
-use Rattle.tables.specs.Panel.{panelLength, signalsIn, processorIn, watchedIn}
+use Rattle.tables.specs.Panel.{panelLength, signalsIn, processorIn}
 use Rattle.tables.specs.Program.{programLength}
 use Rattle.ranges.specs.Ranges.{ranged}
-use Rattle.ranges.proofs.Ranged.{head-ranged, signal-ranged, ranged-tables, ranged-memory}
+use Rattle.ranges.proofs.Ranged.{head-ranged, ranged-tables, ranged-memory}
 use Rattle.tables.specs.Tables.{Tables}
 use Rattle.machine.specs.Running.{Watching}
 use Rattle.header.specs.Commands.{fixed}
@@ -21,6 +20,7 @@ use Rattle.session.specs.declared.Ready.{Ready}
 use Rattle.session.specs.declared.Ready.the-variants.{Right, WrongLength, OutOfRange}
 use Rattle.session.specs.Reply.{Buffers, lengthsOf}
 use Rattle.session.specs.Ready.{readyOf}
+use Rattle.session.proofs.Watched.{ranged-watching, ranged-processor}
 
 -- the lengths are the fixed ones
 pub record Sizes (b : Buffers) : Type 0 where
@@ -95,12 +95,7 @@ module _ (b : Buffers) (r : Ready) (judged : r ≡ readyOf b) (e : r ≡ Right) 
   right-signals = head-ranged (b .panel) (b .program) (b .memory) (right-both .1) .signals-high
 
   pub right-processor : (s : ℕ) → 1 ≤ s → s ≤ signalsIn (b .panel) → processorIn (b .panel) s < 16
-  right-processor s low high =
-      omega (
-        arith,
-        head-ranged (b .panel) (b .program) (b .memory) (right-both .1) .processors-high,
-        signal-ranged (b .panel) (b .program) (b .memory) (right-both .1) s low high .processor-low,
-      )
+  right-processor = ranged-processor (b .panel) (b .program) (b .memory) (right-both .1)
 
   pub right-memory : MemoryBytes (b .memory)
   right-memory = ranged-memory (b .panel) (b .program) (b .memory) (right-sizes .memory) (right-both .1)
@@ -109,12 +104,4 @@ module _ (b : Buffers) (r : Ready) (judged : r ≡ readyOf b) (e : r ≡ Right) 
   right-tables = ranged-tables (b .panel) (b .program) (b .memory) (right-sizes .panel) (right-sizes .program) (right-both .1)
 
   pub right-watching : Watching (b .panel)
-  right-watching =
-      let head = head-ranged (b .panel) (b .program) (b .memory) (right-both .1) in
-      let signal = signal-ranged (b .panel) (b .program) (b .memory) (right-both .1) (watchedIn (b .panel)) (head .watched-low) (head .watched-high) in
-      record {
-        signal-high = omega (arith, head .watched-high, head .signals-high);
-        processor-low = signal .processor-low;
-        slot-low = signal .slot-low;
-        mask-high = head .mask-high;
-      }
+  right-watching = ranged-watching (b .panel) (b .program) (b .memory) (right-both .1)

@@ -1,3 +1,4 @@
+pub mod Watched
 pub mod Judged
 pub mod Replies
 pub mod Refused

@@ -5,3 +5,4 @@ pub mod Lines
 pub mod Fields
 pub mod Steps
 pub mod Prefix
+pub mod Passed

@@ -1,0 +1,96 @@
+-- The lines of changes, signal by signal: what the first of them make of the two buffers.
+use Prim.Native.Nat.{ℕ, suc, _+_, _*_, _<_, _≤_}
+use mathlib.Core.Path.{_≡_, refl, sym, _∙_, ap}
+use mathlib.Core.Bool.{Bool, true, false}
+use mathlib.Core.List.{List, [], _∷_, flatMap}
+use native.Mathlib.Omega.{arith}
+use native.Mathlib.Numerals.{add-one}
+use native.Mathlib.Decide.{ℕ-discrete}
+use lib.Dec.{eqb}
+use lib.ListN.{length, getD, set, length-set, length-append}
+use lib.Seq.{sets, length-sets, getD-set-same, getD-set-other}
+use borrow.Author.Tests.{eq-eqb, ne-eqb}
+use Rattle.fields.specs.Text.{fieldText, lineText}
+use Rattle.fields.proofs.Writing.{sets-append, length-fields}
+use Rattle.model.specs.Listing.{joined}
+use Rattle.listing.specs.Changes.{shownLength, changeLine, changeLines, Shows}
+
+pub length-line : (numbers : List ℕ) → length (lineText numbers) ≡ 6 * length numbers + 1
+unfolding lineText
+length-line numbers = length-append (flatMap fieldText numbers) _ ∙ omega (arith, length-fields numbers)
+
+-- one signal
+module _ (time s value shown : ℕ) where
+  pub line-none : value ≡ shown → changeLine time s value shown ≡ []
+  unfolding changeLine
+  line-none e = rw (eq-eqb value shown e)
+
+  pub line-there : (value ≡ shown → ⊥) → changeLine time s value shown ≡ lineText (time ∷ s ∷ value ∷ [])
+  unfolding changeLine
+  line-there d = rw (ne-eqb value shown d)
+
+  line-short : length (changeLine time s value shown) ≤ 19
+  unfolding changeLine
+  line-short = go (eqb value shown) refl
+    where
+      go : (b : Bool) → eqb value shown ≡ b → length (changeLine time s value shown) ≤ 19
+      go true e = rw e (omega arith)
+      go false e = rw e (omega (arith, length-line (time ∷ s ∷ value ∷ [])))
+
+-- the signals up to s are passed
+pub record Written (n time : ℕ) (values : ℕ → ℕ) (old : ℕ → ℕ) (lent : List ℕ) (s at : ℕ) (shown out : List ℕ) : Type 0 where
+  pub low : s ≤ n
+  pub place : at ≡ length (changeLines s time values old)
+  pub bytes : out ≡ sets lent 0 (changeLines s time values old)
+  pub most : at ≤ 19 * s
+  pub size : length shown ≡ shownLength
+  pub passed : (k : ℕ) → 1 ≤ k → k ≤ s → getD shown k 0 ≡ values k
+  pub ahead : (k : ℕ) → s < k → getD shown k 0 ≡ old k
+
+pub written-starts : (n time : ℕ) (values : ℕ → ℕ) (shown lent : List ℕ) → length shown ≡ shownLength
+    → Written n time values (λ s. getD shown s 0) lent 0 0 shown lent
+unfolding changeLines joined
+written-starts n time values shown lent e =
+    record {
+      low = omega arith;
+      place = refl;
+      bytes = refl;
+      most = omega arith;
+      size = e;
+      passed = λ k l h. absurd (omega arith);
+      ahead = λ k l. refl;
+    }
+
+module _ {n time : ℕ} {values old : ℕ → ℕ} {lent : List ℕ} {s at : ℕ} {shown out : List ℕ} (w : Written n time values old lent s at shown out) where
+  pub written-more : (value next : ℕ) (shown′ out′ : List ℕ) → s < n → s < 4096 → value ≡ values (s + 1)
+      → next ≡ at + length (changeLine time (s + 1) value (getD shown (s + 1) 0))
+      → out′ ≡ sets out at (changeLine time (s + 1) value (getD shown (s + 1) 0)) → shown′ ≡ set shown (s + 1) value
+      → Written n time values old lent (s + 1) next shown′ out′
+  unfolding changeLines joined
+  written-more value next shown′ out′ l few e place bytes stored =
+      let last = w .ahead (suc s) (omega arith) in
+      record {
+        low = omega arith;
+        place = rw add-one (place ∙ rw (e, add-one, last, w .place) (sym (length-append (changeLines s time values old) (changeLine time (suc s) (values (suc s)) (old (suc s))))));
+        bytes = rw add-one (bytes ∙ rw (e, add-one, last, w .bytes) (sets-append lent (changeLines s time values old) (changeLine time (suc s) (values (suc s)) (old (suc s))) 0 at (omega (arith, w .place))));
+        most = omega (arith, w .most, line-short time (s + 1) value (getD shown (s + 1) 0));
+        size = rw stored (length-set shown (s + 1) value ∙ w .size);
+        passed = λ k lo hi. rw stored (now k lo hi (ℕ-discrete k (s + 1)));
+        ahead = λ k lo. rw stored (getD-set-other shown (s + 1) k value 0 (λ q. omega arith) ∙ w .ahead k (omega arith));
+      }
+    where
+      now : (k : ℕ) → 1 ≤ k → k ≤ s + 1 → Dec (k ≡ s + 1) → getD (set shown (s + 1) value) k 0 ≡ values k
+      now k lo hi (yes q) = rw q (getD-set-same shown (s + 1) value 0 (omega (arith, w .size)) ∙ e)
+      now k lo hi (no d) = getD-set-other shown (s + 1) k value 0 d ∙ w .passed k lo (omega arith)
+
+  pub written-size : length out ≡ length lent
+  written-size = rw (w .bytes) (length-sets lent 0 (changeLines s time values old))
+
+  pub written-ends : (m : ℕ) → n ≡ m → n ≤ s
+      → (at ≡ length (changeLines m time values old)) × (out ≡ sets lent 0 (changeLines m time values old)) × Shows m values shown
+  written-ends m e h =
+      let q : s ≡ m = omega (arith, w .low) in (
+        w .place ∙ ap (λ (k : ℕ). length (changeLines k time values old)) q,
+        w .bytes ∙ ap (λ (k : ℕ). sets lent 0 (changeLines k time values old)) q,
+        record { size = w .size; values-shown = λ k lo hi. w .passed k lo (omega arith) },
+      )

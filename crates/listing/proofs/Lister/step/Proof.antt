@@ -1,0 +1,101 @@
+-- Each of the three ways to make a piece, by the number of pieces given.
+use mathlib.Core.Path.{refl, sym, _∙_}
+use native.Mathlib.Omega.{arith}
+use Rattle.listing.proofs.Changes.{length-line}
+use Rattle.listing.proofs.Standing.{right-signals, right-processor, right-memory, stands-stimulus, stands-few, stands-end, stands-pieces, gives-last, at-count, by-count, gives-zeroth, later-ready, later-right, gives-later}
+use borrow.Author.Needs.{needs}
+use Rattle.listing.proofs.Lister.step.Statement.{statement}
+use Rattle.listing.proofs.Lister.step.Tie as tie
+
+cast-if1 : tie.Need-cast-if1
+cast-if1 c = search needs
+
+slice-aggregate-write-line : tie.Need-slice-aggregate-write-line
+slice-aggregate-write-line c = search needs
+
+write-line-requires : tie.Need-write-line-requires
+write-line-requires c κs = search needs
+
+add-t28 : tie.Need-add-t28
+add-t28 c = let s = c .before .before .before .before .before .before .before .before .before .before .before .before .before .before .before in omega (arith, stands-end (s .pre .0 .stands), stands-pieces (s .pre .0 .stands))
+
+same-length : tie.Need-same-length
+same-length c = search needs
+
+returns : tie.Need-returns
+returns c = λ files k s. gives-last s (c .before .before .before .before .before .if1 .taken) _ _ _ _ _ _ (c .before .before .write-line .ensures .0 ∙ sym (length-line _)) (c .before .before .write-line .ensures .1) refl
+
+cast-time : tie.Need-cast-time
+cast-time c = search needs
+
+write-changes-requires : tie.Need-write-changes-requires
+write-changes-requires c κs = let s = c .before .before .before .before .before .before .before .before .before .before .before .before .before .before .before in let st = s .pre .0 .stands in ((st .right .panel-size, right-signals (st .right)), (right-processor (st .right), (right-memory (st .right), (st .shown-size, s .pre .1))))
+
+same-length-2 : tie.Need-same-length-2
+same-length-2 c = search needs
+
+same-length-3 : tie.Need-same-length-3
+same-length-3 c = search needs
+
+same-length-4 : tie.Need-same-length-4
+same-length-4 c = search needs
+
+same-length-5 : tie.Need-same-length-5
+same-length-5 c = search needs
+
+returns-2 : tie.Need-returns-2
+returns-2 c = λ files k s. by-count s (gives-zeroth _ (c .before .before .before .before .before .before .before .before .before .if2 .taken) (at-count s) _ _ _ _ (c .before .before .before .before .write-changes .ensures .0) (c .before .before .before .before .write-changes .ensures .1 .0) (c .before .before .before .before .write-changes .ensures .1 .1) refl)
+
+take-settings-requires : tie.Need-take-settings-requires
+take-settings-requires c κs = let s = c .before .before .before .before .before .before .before .before .before .before .before .before in let st = s .pre .0 .stands in (stands-stimulus st, (stands-few st, (st .right .panel-size, right-signals (st .right))))
+
+run-one-requires : tie.Need-run-one-requires
+run-one-requires c κs = let st = c .before .before .before .before .before .before .before .before .before .before .before .before .before .before .before .before .before .pre .0 .stands in let fed = c .before .before .before .before .take-settings .ensures in later-ready _ (at-count st) (c .before .before .before .before .before .before .if2 .left) (c .before .before .before .before .before .before .before .if1 .left) (fed .0) (fed .1)
+
+write-changes-requires-2 : tie.Need-write-changes-requires-2
+write-changes-requires-2 c κs = let s = c .before .before .before .before .before .before .before .before .before .before .before .before .before .before .before .before .before .before .before .before .before .before .before .before .before .before in let st = s .pre .0 .stands in let fed = c .before .before .before .before .before .before .before .before .before .before .before .before .before .take-settings .ensures in let ran = c .before .before .before .before .before .before .before .before .run-one .ensures in let right = later-right _ (at-count st) (c .before .before .before .before .before .before .before .before .before .before .before .before .before .before .before .if2 .left) (c .before .before .before .before .before .before .before .before .before .before .before .before .before .before .before .before .if1 .left) (fed .0) (fed .1) _ (ran .1 .1) in rw (ran .1 .0) ((right .panel-size, right-signals right), (right-processor right, (right-memory right, (st .shown-size, s .pre .1))))
+
+add-t21 : tie.Need-add-t21
+add-t21 c = let s = c .before .before .before .before .before .before .before .before .before .before .before .before .before .before .before .before .before .before .before .before .before .before .before .before .before .before .before .before .before .before .before in omega (arith, stands-end (s .pre .0 .stands), stands-pieces (s .pre .0 .stands))
+
+same-length-6 : tie.Need-same-length-6
+same-length-6 c = search needs
+
+same-length-7 : tie.Need-same-length-7
+same-length-7 c = search needs
+
+same-length-8 : tie.Need-same-length-8
+same-length-8 c = search needs
+
+same-length-9 : tie.Need-same-length-9
+same-length-9 c = search needs
+
+returns-3 : tie.Need-returns-3
+returns-3 c = λ files k s. let fed = c .before .before .before .before .before .before .before .before .before .before .before .before .before .before .before .before .before .before .take-settings .ensures in let ran = c .before .before .before .before .before .before .before .before .before .before .before .before .before .run-one .ensures in let w = c .before .before .before .before .write-changes2 .ensures in by-count s (gives-later _ (at-count s) (c .before .before .before .before .before .before .before .before .before .before .before .before .before .before .before .before .before .before .before .before .if2 .left) (c .before .before .before .before .before .before .before .before .before .before .before .before .before .before .before .before .before .before .before .before .before .if1 .left) (fed .0) (fed .1) _ (ran .1 .0) _ (ran .1 .1) _ _ _ _ (w .0) (w .1 .0) (w .1 .1) (ran .0) refl refl refl)
+
+pub step-spec : {M : Type 1} → statement M
+step-spec =
+    tie.close
+    (tie.spec
+    cast-if1
+    slice-aggregate-write-line
+    write-line-requires
+    add-t28
+    same-length
+    returns
+    cast-time
+    write-changes-requires
+    same-length-2
+    same-length-3
+    same-length-4
+    same-length-5
+    returns-2
+    take-settings-requires
+    run-one-requires
+    write-changes-requires-2
+    add-t21
+    same-length-6
+    same-length-7
+    same-length-8
+    same-length-9
+    returns-3)

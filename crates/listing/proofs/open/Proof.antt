@@ -1,0 +1,56 @@
+-- What load, fill, decode and the cursor give.
+use Prim.Native.Nat.{ℕ}
+use mathlib.Core.Path.{refl, _∙_, ap}
+use Rattle.logic.specs.Listed.{listed}
+use Rattle.model.proofs.Accepted.{net-accepted, mod-accepted, stim-accepted}
+use Rattle.model.specs.Acceptance.{panelLimit}
+use Rattle.listing.specs.Changes.{notShown}
+use Rattle.listing.proofs.Opening.{accepted-stimulus, opened}
+use borrow.Author.Needs.{needs}
+use Rattle.listing.proofs.open.Statement.{statement}
+use Rattle.listing.proofs.open.Tie as tie
+
+load-requires : tie.Need-load-requires
+load-requires c κs = let s = c .before .before .before .before .before .before .before .before .before .before in let z = s .pre .1 .1 in (net-accepted panelLimit _ (s .pre .0), (mod-accepted panelLimit _ (s .pre .0), (stim-accepted panelLimit _ (s .pre .0), (z .0, z .1, z .2))))
+
+fill-requires : tie.Need-fill-requires
+fill-requires c κs = search needs
+
+decode-requires : tie.Need-decode-requires
+decode-requires c κs = search needs
+
+first-later-requires : tie.Need-first-later-requires
+first-later-requires c κs = accepted-stimulus _ (c .before .before .before .before .before .before .before .before .before .before .before .before .before .before .before .before .before .before .before .before .before .before .before .pre .0)
+
+end-time-requires : tie.Need-end-time-requires
+end-time-requires c κs = (accepted-stimulus _ (c .before .before .before .before .before .before .before .before .before .before .before .before .before .before .before .before .before .before .before .before .before .before .before .before .pre .0), c .before .before .before .before .before .before .before .before .before .before .before .before .before .before .before .before .before .before .before .before .before .before .before .before .pre .1 .0)
+
+same-length : tie.Need-same-length
+same-length c = search needs
+
+same-length-2 : tie.Need-same-length-2
+same-length-2 c = search needs
+
+same-length-3 : tie.Need-same-length-3
+same-length-3 c = search needs
+
+same-length-4 : tie.Need-same-length-4
+same-length-4 c = search needs
+
+returns : tie.Need-returns
+returns c = let s = c .before .before .before .before .before .before .before .before .before .before .before .before .before .before .before .before .before .before .before .before .before .before .before .before .before in let load = c .before .before .before .before .before .before .before .before .before .before .before .before .before .before .load .ensures in opened _ (s .pre .0) _ _ _ _ _ (load .0) (load .1 .0) (load .1 .1) (c .before .before .decode .ensures .0) (c .before .before .decode .ensures .1) (c .before .first-later .ensures) (c .end-time .ensures) refl (c .before .before .before .before .before .before .fill .ensures ∙ ap (λ (n : ℕ). listed n (λ a. notShown)) (s .pre .1 .1 .3))
+
+pub open-spec : {M : Type 1} → statement M
+open-spec =
+    tie.close
+    (tie.spec
+    load-requires
+    fill-requires
+    decode-requires
+    first-later-requires
+    end-time-requires
+    same-length
+    same-length-2
+    same-length-3
+    same-length-4
+    returns)

@@ -1,0 +1,70 @@
+-- The settings so far are those of the lines passed.
+use Prim.Native.Nat.{_-_}
+use mathlib.Core.Path.{sym, _∙_}
+use mathlib.Core.List.{[]}
+use native.Mathlib.Omega.{arith}
+use borrow.Author.Needs.{needs}
+use Rattle.model.specs.Stimulus.{stimCount}
+use Rattle.header.specs.Header.{headOf}
+use Rattle.stimulus.proofs.Steps.{line-right, given-at, end-at}
+use Rattle.listing.specs.Feeding.{Fed}
+use Rattle.listing.proofs.Feeding.{fed-starts, fed-more}
+use Rattle.listing.proofs.take_settings.Statement.{statement}
+use Rattle.listing.proofs.take_settings.Tie as tie
+
+abbrev Inv-loop : tie.InvT-loop
+Inv-loop time stim panel session₀ cursor₀ session cursor = Fed stim panel time (cursor₀ .line) (headOf session₀) (headOf session) (cursor .line)
+
+abbrev μ-loop : tie.MeasureT-loop
+μ-loop time stim panel session₀ cursor₀ session cursor = stimCount stim - cursor .line
+
+loop-holds : tie.Need-loop-holds Inv-loop μ-loop
+loop-holds c = fed-starts _ _ _ _ _ (c .before .before .pre .1 .0)
+
+next-requires : tie.Need-next-requires Inv-loop μ-loop
+next-requires c κs = line-right _ _ (c .before .before .before .pre .0 .passes) _ (c .loop .inv .few)
+
+enum-known-at : tie.Need-enum-known-at Inv-loop μ-loop
+enum-known-at c = search needs
+
+enum-told : tie.Need-enum-told Inv-loop μ-loop
+enum-told c = search needs
+
+returns : tie.Need-returns Inv-loop μ-loop
+returns c = let i = c .before .before .before .loop .inv in let e = end-at _ _ (c .before .before .before .before .before .before .pre .0 .passes) _ (i .few) _ (sym (c .before .before .next .ensures) ∙ c .enum-told .given .1) in (i, λ h q. omega (arith, e .0))
+
+returns-2 : tie.Need-returns-2 Inv-loop μ-loop
+returns-2 c = let g = given-at _ _ (c .before .before .before .before .before .before .before .before .pre .0 .passes) _ (c .before .before .before .before .before .loop .inv .few) _ _ _ _ (sym (c .before .before .before .before .next .ensures) ∙ c .before .before .at .given .1) in (c .before .before .before .before .before .loop .inv, λ h q. c .if1 .taken (g .time-is ∙ q))
+
+cast-set : tie.Need-cast-set Inv-loop μ-loop
+cast-set c = search needs
+
+cast-set-2 : tie.Need-cast-set-2 Inv-loop μ-loop
+cast-set-2 c = search needs
+
+set-requires : tie.Need-set-requires Inv-loop μ-loop
+set-requires c κs = c .before .before .before .before .before .before .before .before .pre .1 .1
+
+loop-less : tie.Need-loop-less Inv-loop μ-loop
+loop-less c = let g = given-at _ _ (c .before .before .before .before .before .before .before .before .before .before .pre .0 .passes) _ (c .before .before .before .before .before .before .before .loop .inv .few) _ _ _ _ (sym (c .before .before .before .before .before .before .next .ensures) ∙ c .before .before .before .before .at .given .1) in omega (arith, g .before-end, g .follows)
+
+loop-again : tie.Need-loop-again Inv-loop μ-loop
+loop-again c = fed-more (c .before .before .before .before .before .before .before .loop .inv) (given-at _ _ (c .before .before .before .before .before .before .before .before .before .before .pre .0 .passes) _ (c .before .before .before .before .before .before .before .loop .inv .few) _ _ _ _ (sym (c .before .before .before .before .before .before .next .ensures) ∙ c .before .before .before .before .at .given .1)) (c .before .before .if1 .left) _ (c .before .set .ensures [] [] .head)
+
+pub take-settings-spec : {M : Type 1} → statement M
+take-settings-spec =
+    tie.close
+    (tie.spec
+    Inv-loop
+    μ-loop
+    loop-holds
+    next-requires
+    enum-known-at
+    enum-told
+    returns
+    returns-2
+    cast-set
+    cast-set-2
+    set-requires
+    loop-less
+    loop-again)

@@ -1,0 +1,40 @@
+-- The lines of the signals whose value is not the one last shown (01, Listing: "each whose value differs from the time before, by time
+-- and signal").
+use Prim.Native.Nat.{ℕ, suc, _≤_}
+use mathlib.Core.Path.{_≡_}
+use mathlib.Core.List.{List, [], _∷_}
+use lib.Dec.{eqb}
+use lib.ListN.{length, getD}
+use Rattle.logic.specs.Choice.{if_then_else_}
+use Rattle.fields.specs.Text.{lineText}
+use Rattle.model.specs.Listing.{joined}
+use Rattle.memory.specs.Memory.{memoryOf}
+use Rattle.tables.specs.Panel.{processorIn, slotIn}
+
+-- the longest piece: a line of each signal
+abbrev pub pieceLength : ℕ
+pieceLength = 77824
+
+-- the values shown, by signal, 1 to 4096; the code of none before time 0
+abbrev pub shownLength : ℕ
+shownLength = 4097
+
+abbrev pub notShown : ℕ
+notShown = 4
+
+-- the value at the place of signal s
+abbrev pub valueHeld : List ℕ → List ℕ → ℕ → ℕ
+valueHeld panel memory s = memoryOf memory .earlierLocal (processorIn panel s) (slotIn panel s)
+
+-- the line of signal s at a time
+unfoldable pub changeLine : ℕ → ℕ → ℕ → ℕ → List ℕ
+changeLine time s value shown = if eqb value shown then [] else lineText (time ∷ s ∷ value ∷ [])
+
+-- those of the signals 1 to n
+unfoldable pub changeLines : ℕ → ℕ → (ℕ → ℕ) → (ℕ → ℕ) → List ℕ
+changeLines n time values shown = joined n (λ k. changeLine time (suc k) (values (suc k)) (shown (suc k)))
+
+-- the values of the signals 1 to n are shown
+pub record Shows (n : ℕ) (values : ℕ → ℕ) (shown : List ℕ) : Type 0 where
+  pub size : length shown ≡ shownLength
+  pub values-shown : (s : ℕ) → 1 ≤ s → s ≤ n → getD shown s 0 ≡ values s

@@ -1,0 +1,30 @@
+-- What a cycle asks for, and the head after it.
+use Prim.Native.Nat.{ℕ, _+_, _<_}
+use mathlib.Core.Path.{_≡_}
+use mathlib.Core.Bool.{true}
+use mathlib.Core.List.{List}
+use lib.ListN.{length}
+use Rattle.model.specs.Session.{Head}
+use Rattle.memory.specs.Memory.{memoryLength}
+use Rattle.tables.specs.Panel.{panelLength}
+use Rattle.tables.specs.Program.{programLength}
+use Rattle.ranges.specs.Ranges.{ranged}
+use Rattle.kept.proofs.Sound.{Sound}
+
+-- working buffers of their lengths and in range
+pub record Right (panel program memory : List ℕ) : Type 0 where
+  pub panel-size : length panel ≡ panelLength
+  pub program-size : length program ≡ programLength
+  pub memory-size : length memory ≡ memoryLength
+  pub range : ranged panel program memory ≡ true
+
+-- and a session over them that watches nothing and has a cycle left
+pub record Ready (h : Head) (panel program memory : List ℕ) : Type 0 where
+  pub right : Right panel program memory
+  pub sound : Sound panel h
+  pub mask : h .watch .mask ≡ 0
+  pub left : h .finished < 65535
+
+-- one cycle more is finished
+abbrev pub cycled : Head → Head
+cycled h = record { finished = h .finished + 1; hand = h .hand; watch = h .watch }
