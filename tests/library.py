@@ -1,12 +1,55 @@
-"""The proved code, to be called from Python."""
+"""What the suites share: counting trials, and the proved code, to be called from Python."""
 import ctypes
 import os
 import shutil
 import subprocess
+import sys
 import tempfile
+import time
 from pathlib import Path
 
 root = Path(__file__).resolve().parent.parent
+
+
+class Score:
+    """What passed and what failed. After `most` faults it gives up: more would say nothing new."""
+
+    def __init__(self, most=30):
+        self.passed = self.failed = 0
+        self.most = most
+
+    def fail(self, words):
+        self.failed += 1
+        print(words, flush=True)
+        if self.failed == self.most:
+            print("it gives up here")
+            self.end()
+
+    def expect(self, right, words):
+        """Counts a trial. Answers whether it passed."""
+        if right:
+            self.passed += 1
+        else:
+            self.fail(words)
+        return right
+
+    def end(self):
+        print(f"{self.passed} passed, {self.failed} failed")
+        sys.exit(1 if self.failed else 0)
+
+
+def trials(numbers, least, seconds):
+    """The numbers in order; a slow machine stops after these seconds, if it has tried as many as `least`."""
+    start = time.monotonic()
+    for tried, number in enumerate(numbers):
+        if tried >= least and time.monotonic() - start > seconds:
+            break
+        yield number
+
+
+def refusal_in(printed):
+    """The refusal that the listing program printed, as tests/independent answers it; None for a listing."""
+    return (int(printed[:6]), int(printed[6:12])) if len(printed) == len("    10     1\n") else None
 
 
 def archive(crate):

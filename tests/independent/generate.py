@@ -101,9 +101,9 @@ def accepted(rnd, processors, slots, filled=0.8, sent=0.6, kinds=(1, 2, 2)):
     return net, mod, stim
 
 
-def largest(rnd):
+def largest(rnd, kinds=(1, 2, 2)):
     """The largest files: 16 processors of 256 slots, a signal in each, and 65534 lines of STIM."""
-    net, mod, stim = accepted(rnd, 16, 256, filled=1, sent=1)
+    net, mod, stim = accepted(rnd, 16, 256, filled=1, sent=1, kinds=kinds)
     inputs = [number for number, row in enumerate(net) if number and row[KIND] == INPUT]
     stim = [[0, number, rnd.randrange(4)] for number in range(1, 4097)]
     for line in range(65534 - 4096 - 1):
