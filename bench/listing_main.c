@@ -66,7 +66,8 @@ int main(int count, char **words)
         keep(&rattle, run(words[2], words[4]));
         keep(&c, run(words[2], words[5]));
     }
-    printf("%-22s %8.3f %8.3f %8.2f %9.1f %8.0f %8.0f %8ld %8ld\n", words[1], rattle.seconds, c.seconds, rattle.seconds / c.seconds,
-           megabytes, megabytes / rattle.seconds, megabytes / c.seconds, rattle.memory, c.memory);
+    printf("%-22s %8.3f %8.3f %8.2f ", words[1], rattle.seconds, c.seconds, rattle.seconds / c.seconds);
+    printf("%9.1f %8.0f %8.0f ", megabytes, megabytes / rattle.seconds, megabytes / c.seconds);
+    printf("%8ld %8ld\n", rattle.memory, c.memory);
     return 0;
 }

@@ -2,7 +2,8 @@
 """verilog.py FOLDER CYCLES PROGRAM: the network of a board in Verilog, run by Icarus Verilog, beside the listing program.
 
 Prints us a cycle of both, and their ratio. Rank-order gates are continuous assignments without delay, and unit-delay gates
-have a delay of one cycle, which is two steps of the time: between them all is settled, and can be read. Of the translations it has those that these boards have.
+have a delay of one cycle, which is two steps of the time: between them all is settled, and can be read. Of the translations
+it has those that these boards have.
 Exits 1 where the signals' last values are not those of the listing, which goes to a file here.
 """
 import os
