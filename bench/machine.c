@@ -119,8 +119,8 @@ static void run_cycle(const uint8_t *panel, const uint8_t *program, unsigned pro
 
 uint64_t c_run(const uint8_t *panel, const uint8_t *program, uint8_t *memory, uint16_t cycles)
 {
-    unsigned processors = panel[2], slots = word(panel + 3), mask = panel[9];
-    const uint8_t *place = panel + SIGNAL * word(panel + 7) + PLACE;
+    unsigned processors = panel[P_AT], slots = word(panel + C_AT), mask = panel[MASK];
+    const uint8_t *place = panel + SIGNAL * word(panel + WATCHED) + PLACE;
 
     for (unsigned done = 1; done <= cycles; done++) {
         run_cycle(panel, program, processors, slots, memory);

@@ -1,5 +1,5 @@
-/* The lockstep machine over the working tables (crates/tables, crates/memory), and a network evaluated without them. kernel_run
- * is Rattle's (crates/kernels), c_run and c_rank_order are C's (machine.c). A Rattle slice is a pointer and a length. */
+/* The lockstep machine over the working buffers (docs/PANEL.md), and a network evaluated without them, in C (machine.c). Rattle's
+ * machine is cavundir_run of the session's archive. */
 #ifndef MACHINE_H
 #define MACHINE_H
 
@@ -10,6 +10,7 @@ enum { PROCESSORS = 16, SLOTS = 256, SIGNALS = PROCESSORS * SLOTS };
 
 /* The panel: ten bytes for the session, then ten for each signal s at 10 * s. */
 enum { SIGNAL = 10, PANEL = SIGNAL * (SIGNALS + 1) };
+enum { N_AT = 0, P_AT = 2, C_AT = 3, FINISHED = 5, WATCHED = 7, MASK = 9 };
 enum { KIND = 0, CODES = 1, HAND = 7, PLACE = 8 };
 enum { INPUT = 1, UNIT_DELAY = 2, RANK_ORDER = 3 };
 
@@ -21,10 +22,7 @@ enum { NO_PART = 9, NO_SENDER = 99 };
 /* The memory: for each processor four parts of 256 locations, and 256 zeros. */
 enum { PARTS = 4, PART = 256, OWN = PART * (PARTS + 1), MEMORY = OWN * PROCESSORS };
 
-/* Runs so many cycles, or up to the first that shows a watched value; answers the cycles done. kernel_run answers 65536, and
- * changes nothing, where a length or a number is out of range. c_run takes the tables on trust. */
-uint64_t kernel_run(const uint8_t *panel, size_t panel_length, const uint8_t *program, size_t program_length, uint8_t *memory,
-                    size_t memory_length, uint16_t cycles);
+/* Runs so many cycles, or up to the first that shows a watched value; answers the cycles done. It takes the tables on trust. */
 uint64_t c_run(const uint8_t *panel, const uint8_t *program, uint8_t *memory, uint16_t cycles);
 
 /* A network as a simulator on one processor keeps it. `order` has the inputs, then the unit-delay gates, then the rank-order

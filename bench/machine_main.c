@@ -5,7 +5,9 @@
 #include <string.h>
 #include <time.h>
 
+#include "cavundir.h"
 #include "machine.h"
+#include "random.h"
 
 static const double SECONDS_A_PAIR = 1.2;
 
@@ -19,18 +21,7 @@ struct board {
 static struct board full = {.processors = PROCESSORS, .slots = SLOTS, .cycles = 64};
 static struct board small = {.processors = 2, .slots = 12, .cycles = 10000};
 
-static uint8_t by_kernel[MEMORY], by_c[MEMORY], values[SIGNALS + 1];
-
-/* splitmix64, from a fixed seed: every run has the same tables. */
-static uint64_t state = 19821982;
-
-static uint64_t random_below(uint64_t bound)
-{
-    uint64_t z = state += 0x9e3779b97f4a7c15;
-    z = (z ^ (z >> 30)) * 0xbf58476d1ce4e5b9;
-    z = (z ^ (z >> 27)) * 0x94d049bb133111eb;
-    return (z ^ (z >> 31)) % bound;
-}
+static uint8_t by_rattle[MEMORY], by_c[MEMORY], values[SIGNALS + 1];
 
 static void put_word(uint8_t *at, unsigned n)
 {
@@ -50,10 +41,10 @@ static void put_pair(uint8_t *pair, unsigned parts, unsigned slots)
 /* One signal of 16 is an input; the gates' codes are legal, and random. The mask is 0, so that no run stops early. */
 static void make_panel(struct board *b, unsigned signals)
 {
-    put_word(b->panel, signals);
-    b->panel[2] = b->processors;
-    put_word(b->panel + 3, b->slots);
-    put_word(b->panel + 7, 1);
+    put_word(b->panel + N_AT, signals);
+    b->panel[P_AT] = b->processors;
+    put_word(b->panel + C_AT, b->slots);
+    put_word(b->panel + WATCHED, 1);
     for (unsigned s = 1; s <= signals; s++) {
         uint8_t *entry = b->panel + SIGNAL * s;
         entry[KIND] = random_below(16) == 0 ? INPUT : UNIT_DELAY + random_below(2);
@@ -153,17 +144,20 @@ static void make_board(struct board *b)
     make_network(b, signals);
 }
 
-static uint64_t run_in_rattle(const struct board *b, uint16_t cycles)
+/* The cycles done, and 65536, which no run does, where the call is refused. */
+static uint64_t run_in_rattle(struct board *b, uint16_t cycles)
 {
-    return kernel_run(b->panel, PANEL, b->program, PROGRAM, by_kernel, MEMORY, cycles);
+    uint64_t answer = cavundir_run(b->panel, PANEL, b->program, PROGRAM, by_rattle, MEMORY, cycles);
+
+    return cavundir_refusal(answer) == CAVUNDIR_NOT_REFUSED ? cavundir_cycles(answer) : 65536;
 }
 
-static uint64_t run_in_c(const struct board *b, uint16_t cycles)
+static uint64_t run_in_c(struct board *b, uint16_t cycles)
 {
     return c_run(b->panel, b->program, by_c, cycles);
 }
 
-static uint64_t run_in_rank_order(const struct board *b, uint16_t cycles)
+static uint64_t run_in_rank_order(struct board *b, uint16_t cycles)
 {
     c_rank_order(&b->network, values, cycles);
     return cycles;
@@ -175,22 +169,24 @@ static void fail(const char *what)
     exit(1);
 }
 
-static void set_back(const struct board *b)
+/* The session counts the cycles finished, and refuses a run beyond 65535 of them. */
+static void set_back(struct board *b)
 {
-    memcpy(by_kernel, b->start, MEMORY);
+    put_word(b->panel + FINISHED, 0);
+    memcpy(by_rattle, b->start, MEMORY);
     memcpy(by_c, b->start, MEMORY);
     memset(values, 0, sizeof values);
 }
 
 /* Both leave the same memory, byte by byte, after the cycles wanted. */
-static void same_run(const struct board *b, uint16_t cycles, uint64_t done)
+static void same_run(struct board *b, uint16_t cycles, uint64_t done)
 {
     set_back(b);
     if (run_in_rattle(b, cycles) != done || run_in_c(b, cycles) != done)
         fail("machine: the cycles done are wrong");
-    if (memcmp(by_kernel, by_c, MEMORY) != 0)
+    if (memcmp(by_rattle, by_c, MEMORY) != 0)
         fail("machine: Rattle and C leave different memories");
-    if (memcmp(by_kernel, b->start, MEMORY) == 0)
+    if (memcmp(by_rattle, b->start, MEMORY) == 0)
         fail("machine: the memory was not changed");
 }
 
@@ -201,13 +197,13 @@ static void check(struct board *b)
         same_run(b, cycles, cycles);
     same_run(b, b->cycles, b->cycles);
 
-    b->panel[9] = 15;
+    b->panel[MASK] = 15;
     same_run(b, b->cycles, 1);
-    b->panel[9] = 16;
+    b->panel[MASK] = 16;
     set_back(b);
-    if (run_in_rattle(b, 1) != 65536 || memcmp(by_kernel, b->start, MEMORY) != 0)
+    if (run_in_rattle(b, 1) != 65536 || memcmp(by_rattle, b->start, MEMORY) != 0)
         fail("machine: tables out of range were run");
-    b->panel[9] = 0;
+    b->panel[MASK] = 0;
 }
 
 static double now(void)
@@ -217,10 +213,10 @@ static double now(void)
     return t.tv_sec + 1e-9 * t.tv_nsec;
 }
 
-typedef uint64_t run(const struct board *b, uint16_t cycles);
+typedef uint64_t run(struct board *b, uint16_t cycles);
 
 /* Rattle's run and the other in turn until the time is used up, each pass from the same memory; the fastest of each counts. */
-static void compare(const char *what, const struct board *b, run *in_c)
+static void compare(const char *what, struct board *b, run *in_c)
 {
     double rattle = 1e9, c = 1e9;
     double operations = (double)b->cycles * b->processors * b->slots;
@@ -232,7 +228,7 @@ static void compare(const char *what, const struct board *b, run *in_c)
         double middle = now();
         uint64_t y = in_c(b, b->cycles);
         double stop = now();
-        if (x != y || (in_c == run_in_c && memcmp(by_kernel, by_c, MEMORY) != 0))
+        if (x != y || (in_c == run_in_c && memcmp(by_rattle, by_c, MEMORY) != 0))
             fail("machine: Rattle and C differ");
         if (middle - start < rattle)
             rattle = middle - start;

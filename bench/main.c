@@ -6,6 +6,7 @@
 #include <time.h>
 
 #include "ground.h"
+#include "random.h"
 
 enum { COUNT = 65536, BOARD = 4096 };
 static const double SECONDS_A_PAIR = 1.2;
@@ -13,17 +14,6 @@ static const double SECONDS_A_PAIR = 1.2;
 static uint8_t cells[CELL * COUNT], board[CELL * COUNT];
 static uint16_t numbers[COUNT];
 static uint8_t text[FIELD * COUNT], written_by_kernel[FIELD * COUNT], written_by_ground[FIELD * COUNT];
-
-/* splitmix64, from a fixed seed: every run has the same inputs. */
-static uint64_t state = 19821982;
-
-static uint64_t random_below(uint64_t bound)
-{
-    uint64_t z = state += 0x9e3779b97f4a7c15;
-    z = (z ^ (z >> 30)) * 0xbf58476d1ce4e5b9;
-    z = (z ^ (z >> 27)) * 0x94d049bb133111eb;
-    return (z ^ (z >> 31)) % bound;
-}
 
 /* Legal gates at random; from the cell `period` on the codes repeat, with other operands. */
 static void make_cells(uint8_t *made, size_t period)

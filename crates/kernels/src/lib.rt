@@ -1,14 +1,12 @@
-// Loops over gates and fields, and runs of the machine, that C calls, for bench/ to measure. A sum is taken modulo 2^64, as C takes it.
+// Loops over gates and fields that C calls, for bench/ to measure. A sum is taken modulo 2^64, as C takes it.
 
 ghost use mathlib.Core.Path.{_≡_};
 ghost use Prim.Native.Nat.{_+_, _/_, _%_, _^_, _≤_, min};
 ghost use lib.ListN.{length};
 ghost use Rattle.kernels.specs.Cells.{valueAt, valueSum};
 ghost use Rattle.kernels.specs.Numbers.{numberSum, fitting, written};
-ghost use Rattle.kernels.specs.Lent.{lent, cyclesDone, memoryLeft};
 use fields::Field;
 use gates::Gate;
-use tables::Cycle;
 
 // The value of the gate in the cell at a place.
 fn cell_value(cells: &[u8], at: usize) -> u8
@@ -76,35 +74,4 @@ pub extern "C" fn kernel_write(out: &mut [u8], numbers: &[u16]) -> u64
         k += 1;
     }
     count as u64
-}
-
-// The buffers have their lengths, and every number in them is in range.
-fn are_lent(panel: &[u8], program: &[u8], memory: &[u8]) -> bool
-    ensures { λ r. ⌜ r ≡ lent (now (panel .entry)) (now (program .entry)) (now (memory .entry)) ⌝ }
-{
-    if panel.len() != 40970 {
-        return false;
-    }
-    if program.len() != 53248 {
-        return false;
-    }
-    if memory.len() != 20480 {
-        return false;
-    }
-    ranges::in_range(panel, program, memory)
-}
-
-// Runs so many cycles of the machine, or fewer if it stops, and answers how many it did. Buffers that it cannot run on are left as
-// they are, and the answer is 65536, which no run does.
-#[no_mangle]
-pub extern "C" fn kernel_run(panel: &[u8], program: &[u8], memory: &mut [u8], cycles: u16) -> u64
-    ensures { λ r. ⌜ r ≡ cyclesDone (now (panel .entry)) (now (program .entry)) (now (memory .entry)) cycles ⌝ }
-    ensures { λ _. ⌜ now (memory .exit) ≡ memoryLeft (now (panel .entry)) (now (program .entry)) (now (memory .entry)) cycles ⌝ }
-{
-    if !are_lent(panel, program, memory) {
-        return 65536;
-    }
-    let ran = machine::run(panel, program, memory, Cycle(cycles));
-    let done = ran.done;
-    done.0 as u64
 }
