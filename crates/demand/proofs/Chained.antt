@@ -18,7 +18,7 @@ use Rattle.tables.specs.Tables.{moduleIn}
 use Rattle.tables.specs.Holding.{Holding}
 use Rattle.ranges.specs.Ranges.{ranged}
 use Rattle.header.specs.Header.{headIn, withHead}
-use Rattle.header.specs.Commands.{fixed}
+use Rattle.lengths.specs.Lengths.{fixed}
 use Rattle.session.specs.Reply.{Buffers, lengthsOf, Reply, refusing, outcomeIn, leaving, reply}
 use Rattle.engine.proofs.Same.{near-trans}
 use Rattle.demand.specs.Lending.{working, Post, own, other}

@@ -40,7 +40,7 @@ use Rattle.opening.specs.Opened.{openCheck, leftBy, openBits}
 use Rattle.opening.proofs.Opened.{opened-ranged}
 use Rattle.engine.proofs.Valued.{opening-holds}
 use Rattle.header.specs.Header.{headIn, withHead}
-use Rattle.header.specs.Commands.{fixed}
+use Rattle.lengths.specs.Lengths.{fixed}
 use Rattle.session.specs.Reply.{Buffers, buffersOf, lengthsOf, Reply, reply}
 use Rattle.session.proofs.Judged.{same-lengths}
 use Rattle.kept.proofs.Heads.{with-head-finished, with-head-hand, with-head-watched, with-head-mask}
@@ -168,9 +168,9 @@ module _ (files : Files) (accepted : Accepted panelLimit files) where
         lengths =
             same-lengths opened
             (record {
-              panel = tables .panel-size;
-              program = tables .program-size;
-              memory = written-length (within (modProcessors (files .MOD)) (modSlots (files .MOD))) (opening m (start n (givenOf files))) (listed memoryLength (λ a. 0));
+              panel-size = tables .panel-size;
+              program-size = tables .program-size;
+              memory-size = written-length (within (modProcessors (files .MOD)) (modSlots (files .MOD))) (opening m (start n (givenOf files))) (listed memoryLength (λ a. 0));
             });
         range = range;
         holding = holding;

@@ -23,7 +23,7 @@ use Rattle.ranges.specs.Ranges.{ranged}
 use Rattle.ranges.proofs.Laid.{lines-laid}
 use Rattle.ranges.proofs.Ranged.{panel-in-range, program-in-range}
 use Rattle.header.specs.Header.{headIn}
-use Rattle.header.specs.Commands.{fixed}
+use Rattle.lengths.specs.Lengths.{fixed}
 use Rattle.session.specs.Reply.{Buffers, lengthsOf, outcomeIn}
 use Rattle.kept.proofs.Panels.{InRange, head-in-range}
 use Rattle.kept.proofs.Memories.{small-in, run-small}

@@ -18,7 +18,7 @@ use Rattle.tables.specs.Holding.{SameLines, SameGates, Holding}
 use Rattle.ranges.specs.Ranges.{ranged}
 use Rattle.ranges.proofs.Ranged.{Values, is-ranged, panel-in-range, program-in-range, memory-in-range, head-ranged}
 use Rattle.header.specs.Header.{withHead}
-use Rattle.header.specs.Commands.{fixed}
+use Rattle.lengths.specs.Lengths.{fixed}
 use Rattle.session.specs.Reply.{Buffers, lengthsOf, outcomeIn, leaving, reply}
 use Rattle.kept.proofs.Heads.{with-head-length, with-head-processors, with-head-slots, with-head-finished, with-head-processor, with-head-slot, with-head-module, with-head-size, with-head-network-kind, with-head-gate}
 use Rattle.kept.proofs.Panels.{with-head-panel, with-head-program}

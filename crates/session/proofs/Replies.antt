@@ -15,7 +15,8 @@ use Rattle.ranges.specs.Ranges.{ranged}
 use Rattle.answers.specs.Answers.{callAnswer, answerBits}
 use Rattle.header.specs.declared.Told.{Told}
 use Rattle.header.specs.Header.{headIn, headOf, withHead}
-use Rattle.header.specs.Commands.{fixed, commanded, Tells}
+use Rattle.lengths.specs.Lengths.{fixed}
+use Rattle.header.specs.Commands.{commanded, Tells}
 use Rattle.session.specs.declared.Ready.{Ready}
 use Rattle.session.specs.declared.Ready.the-variants.{Right, WrongLength, OutOfRange}
 use Rattle.session.specs.Reply.{Buffers, buffersOf, lengthsOf, Reply, refusing, outcomeIn, leaving, reply}
@@ -137,7 +138,7 @@ module _ (b : Buffers) (c : Call) (r : Ready) (judged : r ≡ readyOf b) where
     pub memory-kept : done .state ≡ memoryOf (b .memory) → held (processorsIn (b .panel)) (slotsIn (b .panel)) (done .state) (b .memory) ≡ b .memory
     memory-kept q =
         ap (λ (w : Memory). held (processorsIn (b .panel)) (slotsIn (b .panel)) w (b .memory)) q
-        ∙ sym (written-self (within (processorsIn (b .panel)) (slotsIn (b .panel))) (b .memory) (sizes .memory))
+        ∙ sym (written-self (within (processorsIn (b .panel)) (slotsIn (b .panel))) (b .memory) (sizes .memory-size))
 
     pub replies : (bits : ℕ) (left : List ℕ) → Writes done (b .panel) bits left → done .state ≡ memoryOf (b .memory)
         → Replies b c bits (buffersOf left (b .program) (b .memory))

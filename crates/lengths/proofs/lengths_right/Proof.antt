@@ -1,6 +1,6 @@
-use Rattle.opening.proofs.Outcome.{wrong-panel, wrong-program, by-memory}
-use Rattle.opening.proofs.lengths_right.Statement.{statement}
-use Rattle.opening.proofs.lengths_right.Tie as tie
+use Rattle.lengths.proofs.Sizes.{wrong-panel, wrong-program, by-memory}
+use Rattle.lengths.proofs.lengths_right.Statement.{statement}
+use Rattle.lengths.proofs.lengths_right.Tie as tie
 
 returns : tie.Need-returns
 returns c = wrong-panel _ _ _ (c .if1 .taken)
