@@ -1,11 +1,11 @@
 use mathlib.Core.Path.{sym}
 use Rattle.logic.proofs.Tests.{decided}
 use Rattle.logic.specs.Test.{_or_}
-use Rattle.fields.specs.Text.{columnOf}
-use Rattle.fields.proofs.Writing.{column-last}
+use Rattle.writing.specs.Text.{columnOf}
+use Rattle.writing.proofs.Writing.{column-last}
 use borrow.Author.Needs.{needs}
-use Rattle.fields.proofs.column.Statement.{statement}
-use Rattle.fields.proofs.column.Tie as tie
+use Rattle.writing.proofs.column.Statement.{statement}
+use Rattle.writing.proofs.column.Tie as tie
 
 div-result : tie.Need-div-result
 div-result c = search needs

@@ -1,9 +1,9 @@
 use native.Mathlib.Omega.{arith}
 use lib.ListN.{length-set}
-use Rattle.fields.proofs.Writing.{field-stored}
+use Rattle.writing.proofs.Writing.{field-stored}
 use borrow.Author.Needs.{needs}
-use Rattle.fields.proofs.write_field.Statement.{statement}
-use Rattle.fields.proofs.write_field.Tie as tie
+use Rattle.writing.proofs.write_field.Statement.{statement}
+use Rattle.writing.proofs.write_field.Tie as tie
 
 slice-write-out : tie.Need-slice-write-out
 slice-write-out c = search needs

@@ -9,7 +9,7 @@ use lib.ListN.{length, getD, take, set, length-append}
 use lib.Seq.{sets, take-suc, take-length, length-take-le}
 use borrow.Author.Tests.{lt-leb}
 use Rattle.logic.specs.Test.{_or_}
-use Rattle.fields.specs.Text.{columnOf, fieldText, lineText}
+use Rattle.writing.specs.Text.{columnOf, fieldText, lineText}
 
 -- the last column shows the digit 0 too
 pub column-last : (n w : ℕ) → n < w → w ≡ 1 → columnOf n w ≡ 48

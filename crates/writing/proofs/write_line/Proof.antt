@@ -3,10 +3,10 @@ use mathlib.Core.Path.{_≡_, _∙_}
 use mathlib.Core.List.{flatMap}
 use native.Mathlib.Omega.{arith}
 use lib.ListN.{length}
-use Rattle.fields.proofs.Writing.{fields, fields-more, line-stored}
+use Rattle.writing.proofs.Writing.{fields, fields-more, line-stored}
 use borrow.Author.Needs.{needs}
-use Rattle.fields.proofs.write_line.Statement.{statement}
-use Rattle.fields.proofs.write_line.Tie as tie
+use Rattle.writing.proofs.write_line.Statement.{statement}
+use Rattle.writing.proofs.write_line.Tie as tie
 
 abbrev Inv-loop : tie.InvT-loop
 Inv-loop out₀ at numbers place₀ k₀ out place k =

@@ -12,9 +12,9 @@ use borrow.Author.Tests.{eqb-true, eqb-false, le-leb, lt-leb, ne-eqb, eq-eqb, lt
 use Rattle.logic.specs.Test.{_or_, every}
 use Rattle.logic.specs.Choice.{if_then_else_}
 use Rattle.logic.proofs.Tests.{and-left, and-right, and-true}
 use Rattle.fields.specs.Field.{isDigit, afterSpaces, decimal, noLeadingZero, isNumeral, isField, number}
-use Rattle.fields.specs.Text.{columnOf, fieldText}
 use Rattle.fields.proofs.Digit.{digit-within, digit-low, digit-high, numeral-leading, numeral-digits, numeral-small, numeral-right}
+use Rattle.writing.specs.Text.{columnOf, fieldText}
 
 -- what the column of weight w shows of v: the digit x where v reaches it, else a space
 data Shows (v w x c : ℕ) : Type 0 where

@@ -10,14 +10,14 @@ use lib.Seq.{take-at, drop-append-seam, getD-append-add, getD-append-seam, take-
 use borrow.Author.Tests.{eq-eqb, eqb-true, ltb-true, ltb-false}
 use Rattle.logic.specs.Test.{_and_, all}
 use Rattle.logic.proofs.Tests.{and-left, and-right, all-at, all-true}
 use Rattle.fields.specs.Field.{columnsAt, isFieldAt, numberAt, number}
 use Rattle.fields.specs.Line.{isLineAt, numbersAt, newline, lineLength}
-use Rattle.fields.specs.Text.{fieldText, lineText}
 use Rattle.fields.specs.Reading.{readField, readLine}
 use Rattle.fields.specs.declared.Field.the-variants.{Number}
 use Rattle.fields.specs.declared.Line.the-variants.{Next}
-use Rattle.fields.proofs.Spelling.{right-text, text-right, Readable}
-use Rattle.fields.proofs.Writing.{length-fields}
+use Rattle.writing.specs.Text.{fieldText, lineText}
+use Rattle.writing.proofs.Spelling.{right-text, text-right, Readable}
+use Rattle.writing.proofs.Writing.{length-fields}
 
 -- numbers that a field can show
 pub data Small : List ℕ → Type 0 where
