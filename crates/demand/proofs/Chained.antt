@@ -11,16 +11,15 @@ use Rattle.model.proofs.Conditions.{Scheduled}
 use Rattle.model.proofs.Machine.{Near, near-refl}
 use Rattle.model.proofs.Session.{Like, like-trans}
 use Rattle.model.proofs.Traces.{Met}
-use Rattle.memory.specs.Memory.{memoryOf, held}
-use Rattle.memory.proofs.Near.{held-near}
-use Rattle.tables.specs.Panel.{processorsIn, slotsIn, watchedIn}
-use Rattle.tables.specs.Tables.{moduleIn}
+use Rattle.memory.specs.Memory.{memoryOf}
+use Rattle.tables.specs.Panel.{watchedIn}
 use Rattle.tables.specs.Holding.{Holding}
 use Rattle.ranges.specs.Ranges.{ranged}
 use Rattle.header.specs.Header.{headIn, withHead}
 use Rattle.lengths.specs.Lengths.{fixed}
 use Rattle.session.specs.Reply.{Buffers, lengthsOf, Reply, refusing, outcomeIn, leaving, reply}
 use Rattle.engine.proofs.Same.{near-trans}
+use Rattle.engine.proofs.Valued.{written-near}
 use Rattle.demand.specs.Lending.{working, Post, own, other}
 use Rattle.demand.proofs.Meeting.{tables-outcome}
 
@@ -50,12 +49,6 @@ outcome-wrong n E h x c l = rw l
 module _ {f : Network} {g : Module} (ok : Scheduled f g) (few : g .processors ≤ 16) (short : g .slots ≤ 256) (processor slot : ℕ → ℕ)
     (placed : (s : ℕ) → Signal f s → At g (processor s) (slot s) × (g .signal (processor s) (slot s) ≡ s))
     (with-head : (h : Head) (b : Buffers) → Good f g b → Like f (headIn (withHead h (b .panel))) h) where
-  written-near : (b : Buffers) → Good f g b → (w : Memory) → Near g (memoryOf (held (processorsIn (b .panel)) (slotsIn (b .panel)) w (b .memory))) w
-  unfolding moduleIn
-  written-near b good w =
-      subst (λ (c : ℕ). Near g (memoryOf (held (processorsIn (b .panel)) c w (b .memory))) w) (sym (good .holding .lines .slots))
-      (subst (λ (p : ℕ). Near g (memoryOf (held p (g .slots) w (b .memory))) w) (sym (good .holding .lines .processors)) (held-near g few short w (b .memory)))
-
   -- a call meets its contract: it does what the session over the files' machine does
   pub meets : (b : Buffers) (c : Lent) (a : Answer) (b′ : Buffers) → Good f g b → Post b c a b′
       → Met working fixed f g processor slot (Near g) b c a b′
@@ -69,7 +62,7 @@ module _ {f : Network} {g : Module} (ok : Scheduled f g) (few : g .processors �
         head = subst (λ (x : Buffers). Like f (headIn (x .panel)) (told .head)) (sym (r ∙ ap (λ (x : Reply). x .buffers) same))
             (like-trans f _ _ _ (with-head (outcomeIn b (c .call) .head) b good) (o .head));
         memory = subst (λ (x : Buffers). Near g (memoryOf (x .memory)) (told .state)) (sym (r ∙ ap (λ (x : Reply). x .buffers) same))
-            (near-trans (written-near b good (outcomeIn b (c .call) .state)) (o .state));
+            (near-trans (written-near (good .holding) few short (outcomeIn b (c .call) .state) (b .memory)) (o .state));
       })
   meets b c a b′ good (other lent e l q r) =
       let wrong = outcome-wrong f (lockstep f g processor slot) (headIn (b .panel)) (memoryOf (b .memory)) c l in

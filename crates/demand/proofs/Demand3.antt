@@ -23,7 +23,7 @@ use Rattle.model.specs.Demands.{Trace, end, next, Demand3}
 use Rattle.model.proofs.Machine.{Near}
 use Rattle.model.proofs.Session.{Like}
 use Rattle.model.proofs.Keeping.{kept-places, kept-near, keeps}
-use Rattle.model.proofs.Accepted.{net-accepted, mod-accepted, net-size, mod-processors, mod-slots}
+use Rattle.model.proofs.Accepted.{net-accepted, mod-accepted, net-size}
 use Rattle.model.proofs.Demands.{accepted-formed, accepted-acyclic, accepted-scheduled, placeOf, placed-there}
 use Rattle.model.proofs.Traces.{demand-3}
 use Rattle.memory.specs.Memory.{memoryLength, within}
@@ -38,7 +38,7 @@ use Rattle.loading.proofs.Loaded.{loaded-network, loaded-head, loaded-holding, 
 use Rattle.answers.specs.Answers.{answerBits}
 use Rattle.opening.specs.Opened.{openCheck, leftBy, openBits}
 use Rattle.opening.proofs.Opened.{opened-ranged}
-use Rattle.engine.proofs.Valued.{opening-holds}
+use Rattle.engine.proofs.Valued.{processors-few, slots-few, opening-holds}
 use Rattle.header.specs.Header.{headIn, withHead}
 use Rattle.lengths.specs.Lengths.{fixed}
 use Rattle.session.specs.Reply.{Buffers, buffersOf, lengthsOf, Reply, reply}
@@ -189,7 +189,7 @@ module _ (files : Files) (accepted : Accepted panelLimit files) where
         let slot : (ℕ → ℕ) = λ s. placeOf panelLimit files accepted s .1 in
         demand-3 working fixed n m processor slot (Near m) (givenOf files)
         (keeps formed acyclic ok (givenOf files) processor slot placed) (kept-places formed acyclic ok (givenOf files)) (kept-near formed acyclic ok (givenOf files))
-        Post (Good n m) (meets ok few short processor slot placed (head-back n m)) (stays n m)
+        Post (Good n m) (meets ok (processors-few files accepted) (slots-few files accepted) processor slot placed (head-back n m)) (stays n m)
         t (fresh (givenOf files)) []
         (record {
           good = good;
@@ -199,12 +199,6 @@ module _ (files : Files) (accepted : Accepted panelLimit files) where
           rows-finished = refl;
         })
       where
-        few : m .processors ≤ 16
-        few = mod-processors n (files .MOD) (mod-accepted panelLimit files accepted) .1
-
-        short : m .slots ≤ 256
-        short = mod-slots n (files .MOD) (mod-accepted panelLimit files accepted) .1
-
         size : (1 ≤ n .size) × (n .size ≤ 4096)
         size = net-size panelLimit (files .NET) (net-accepted panelLimit files accepted)
 

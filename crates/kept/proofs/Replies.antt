@@ -12,7 +12,7 @@ use Rattle.model.specs.Module.{Module}
 use Rattle.model.specs.Session.{Head, Call, sameLengths}
 use Rattle.memory.specs.Memory.{memoryLength, within}
 use Rattle.memory.proofs.Written.{written-length}
-use Rattle.tables.specs.Panel.{panelLength, signalsIn, processorsIn, slotsIn, finishedIn}
+use Rattle.tables.specs.Panel.{panelLength, signalsIn, processorsIn, slotsIn}
 use Rattle.tables.specs.Tables.{networkIn}
 use Rattle.tables.specs.Holding.{SameLines, SameGates, Holding}
 use Rattle.ranges.specs.Ranges.{ranged}
@@ -20,7 +20,7 @@ use Rattle.ranges.proofs.Ranged.{Values, is-ranged, panel-in-range, program-in-
 use Rattle.header.specs.Header.{withHead}
 use Rattle.lengths.specs.Lengths.{fixed}
 use Rattle.session.specs.Reply.{Buffers, lengthsOf, outcomeIn, leaving, reply}
-use Rattle.kept.proofs.Heads.{with-head-length, with-head-processors, with-head-slots, with-head-finished, with-head-processor, with-head-slot, with-head-module, with-head-size, with-head-network-kind, with-head-gate}
+use Rattle.kept.proofs.Heads.{with-head-length, with-head-processors, with-head-slots, with-head-processor, with-head-slot, with-head-module, with-head-size, with-head-network-kind, with-head-gate}
 use Rattle.kept.proofs.Panels.{with-head-panel, with-head-program}
 use Rattle.kept.proofs.Memories.{held-values}
 use Rattle.kept.proofs.Outcomes.{outcome-kept}
@@ -84,12 +84,6 @@ module _ (b : Buffers) (c : Call) (lent : sameLengths (lengthsOf b) fixed ≡ tr
 
     pub reply-ranged : ranged (reply b c .buffers .panel) (reply b c .buffers .program) (reply b c .buffers .memory) ≡ true
     reply-ranged = subst (λ (d : Buffers). ranged (d .panel) (d .program) (d .memory) ≡ true) (sym (leaves r)) left-ranged
-
-    -- the cycles finished stay a number of two bytes
-    pub reply-finished : finishedIn (b .panel) ≤ 65535 → finishedIn (reply b c .buffers .panel) ≤ 65535
-    reply-finished l =
-        subst (λ (d : Buffers). finishedIn (d .panel) ≤ 65535) (sym (leaves r))
-        (subst (λ (x : ℕ). x ≤ 65535) (sym (with-head-finished (outcomeIn b c .head) (b .panel))) (outcome-kept b r c .finished l))
 
     module _ {n : Network} {m : Module} (holding : Holding n m (b .panel) (b .program)) where
       left-holding : Holding n m (leaving b (outcomeIn b c) .panel) (b .program)

@@ -1,4 +1,4 @@
--- A buffer filled byte by byte: the first k bytes are what they should be.
+-- A list filled from its start: the first k elements are what they should be.
 use Prim.Native.Nat.{ℕ, _+_, _<_, _≤_}
 use mathlib.Core.Path.{_≡_, _∙_}
 use mathlib.Core.List.{List}
