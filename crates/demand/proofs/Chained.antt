@@ -17,7 +17,8 @@ use Rattle.tables.specs.Holding.{Holding}
 use Rattle.ranges.specs.Ranges.{ranged}
 use Rattle.header.specs.Header.{headIn, withHead}
 use Rattle.lengths.specs.Lengths.{fixed}
-use Rattle.session.specs.Reply.{Buffers, lengthsOf, Reply, refusing, outcomeIn, leaving, reply}
+use Rattle.session.specs.Reply.{Buffers, lengthsOf, Reply, outcomeIn}
+use Rattle.session.proofs.Replies.{reply-40, reply-right}
 use Rattle.engine.proofs.Same.{near-trans}
 use Rattle.engine.proofs.Valued.{written-near}
 use Rattle.demand.specs.Lending.{working, Post, own, other}
@@ -29,16 +30,6 @@ pub record Good (f : Network) (g : Module) (b : Buffers) : Type 0 where
   pub range : ranged (b .panel) (b .program) (b .memory) ≡ true
   pub holding : Holding f g (b .panel) (b .program)
   pub watching : Signal f (watchedIn (b .panel))
-
--- the reply of a call on them, and on buffers of a wrong length
-reply-good : (b : Buffers) (c : Lent) → sameLengths (lengthsOf b) fixed ≡ true → ranged (b .panel) (b .program) (b .memory) ≡ true
-    → reply b (c .call) ≡ record { answer = outcomeIn b (c .call) .answer; buffers = leaving b (outcomeIn b (c .call)) }
-unfolding reply
-reply-good b c l r = rw (l, r, reply)
-
-pub reply-wrong : (b : Buffers) (c : Lent) → sameLengths (lengthsOf b) fixed ≡ false → reply b (c .call) ≡ refusing 40 b
-unfolding reply
-reply-wrong b c l = rw (l, reply)
 
 -- 40 is the first refusal of the session too
 outcome-wrong : (n : Network) (E : Engine) (h : Head) (x : E .State) (c : Lent) → sameLengths (c .lengths) fixed ≡ false
@@ -55,7 +46,7 @@ module _ {f : Network} {g : Module} (ok : Scheduled f g) (few : g .processors �
   meets b c a b′ good (own e q r) =
       let o = tables-outcome ok processor slot placed (b .panel) (b .program) (good .holding) (memoryOf (b .memory)) (record { lengths = lengthsOf b; call = c .call }) (good .watching) in
       let told = outcome fixed f (lockstep f g processor slot) (headIn (b .panel)) (memoryOf (b .memory)) (record { lengths = lengthsOf b; call = c .call }) in
-      let same = reply-good b c (good .lengths) (good .range) in
+      let same = reply-right b (c .call) (good .lengths) (good .range) in
       subst (λ (l : Lengths). Met working fixed f g processor slot (Near g) b (record { lengths = l; call = c .call }) a b′) e
       (record {
         answer = q ∙ ap (λ (x : Reply). x .answer) same ∙ o .answer;
@@ -67,7 +58,7 @@ module _ {f : Network} {g : Module} (ok : Scheduled f g) (few : g .processors �
   meets b c a b′ good (other lent e l q r) =
       let wrong = outcome-wrong f (lockstep f g processor slot) (headIn (b .panel)) (memoryOf (b .memory)) c l in
       record {
-        answer = q ∙ ap (λ (x : Reply). x .answer) (reply-wrong lent c (ap (λ (x : Lengths). sameLengths x fixed) e ∙ l)) ∙ sym (ap (λ (x : Outcome Memory). x .answer) wrong);
+        answer = q ∙ ap (λ (x : Reply). x .answer) (reply-40 lent (c .call) (ap (λ (x : Lengths). sameLengths x fixed) e ∙ l)) ∙ sym (ap (λ (x : Outcome Memory). x .answer) wrong);
         head = rw (r, wrong) (record { finished = refl; hand = λ s i k. refl; watch = refl });
         memory = rw (r, wrong) near-refl;
       }

@@ -43,10 +43,11 @@ use Rattle.header.specs.Header.{headIn, withHead}
 use Rattle.lengths.specs.Lengths.{fixed}
 use Rattle.session.specs.Reply.{Buffers, buffersOf, lengthsOf, Reply, reply}
 use Rattle.session.proofs.Judged.{same-lengths}
+use Rattle.session.proofs.Replies.{reply-40, reply-right}
 use Rattle.kept.proofs.Heads.{with-head-finished, with-head-hand, with-head-watched, with-head-mask}
-use Rattle.kept.proofs.Replies.{reply-lengths, reply-ranged, reply-holding, reply-answer}
+use Rattle.kept.proofs.Replies.{reply-lengths, reply-ranged, reply-holding}
 use Rattle.demand.specs.Lending.{working, openedBy, Opens, Post, own, other, Throughout, EveryAnswer, numberOf}
-use Rattle.demand.proofs.Chained.{Good, meets, reply-wrong}
+use Rattle.demand.proofs.Chained.{Good, meets}
 use Rattle.demand.proofs.Refusals.{outcome-low}
 
 -- equal lengths
@@ -108,11 +109,11 @@ module _ (f : Network) (g : Module) where
   -- 44 never comes
   answer-low : (b : Buffers) (c : Lent) (a : Answer) (b′ : Buffers) → Good f g b → Post b c a b′ → numberOf a ≤ 43
   answer-low b c a b′ good (own e q r) =
-      subst (λ (x : Answer). numberOf x ≤ 43) (sym (q ∙ reply-answer b (c .call) (good .lengths) (good .range)))
+      subst (λ (x : Answer). numberOf x ≤ 43) (sym (q ∙ ap (λ (x : Reply). x .answer) (reply-right b (c .call) (good .lengths) (good .range))))
       (outcome-low (networkIn (b .panel) (b .program)) _ (headIn (b .panel)) _ (record { lengths = lengthsOf b; call = c .call }))
   answer-low b c a b′ good (other lent e l q r) =
       subst (λ (x : Answer). numberOf x ≤ 43)
-      (sym (q ∙ ap (λ (x : Reply). x .answer) (reply-wrong lent c (ap (λ (x : Lengths). sameLengths x fixed) e ∙ l)))) forty
+      (sym (q ∙ ap (λ (x : Reply). x .answer) (reply-40 lent (c .call) (ap (λ (x : Lengths). sameLengths x fixed) e ∙ l)))) forty
     where
       forty : 40 ≤ 43
       forty = omega arith

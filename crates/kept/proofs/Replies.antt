@@ -1,7 +1,7 @@
 -- 44 never comes in a session: every call leaves working buffers that are of their lengths and in range so, and tables that hold a
 -- network and a module still hold them.
 use Prim.Native.Nat.{ℕ, _≤_}
-use mathlib.Core.Path.{_≡_, refl, sym, subst, _∙_}
+use mathlib.Core.Path.{_≡_, refl, sym, subst, _∙_, ap}
 use mathlib.Core.Bool.{Bool, true, false}
 use mathlib.Core.List.{List}
 use native.Mathlib.Omega.{arith}
@@ -19,7 +19,8 @@ use Rattle.ranges.specs.Ranges.{ranged}
 use Rattle.ranges.proofs.Ranged.{Values, is-ranged, panel-in-range, program-in-range, memory-in-range, head-ranged}
 use Rattle.header.specs.Header.{withHead}
 use Rattle.lengths.specs.Lengths.{fixed}
-use Rattle.session.specs.Reply.{Buffers, lengthsOf, outcomeIn, leaving, reply}
+use Rattle.session.specs.Reply.{Buffers, lengthsOf, Reply, outcomeIn, leaving, reply}
+use Rattle.session.proofs.Replies.{reply-44, reply-right}
 use Rattle.kept.proofs.Heads.{with-head-length, with-head-processors, with-head-slots, with-head-processor, with-head-slot, with-head-module, with-head-size, with-head-network-kind, with-head-gate}
 use Rattle.kept.proofs.Panels.{with-head-panel, with-head-program}
 use Rattle.kept.proofs.Memories.{held-values}
@@ -34,13 +35,7 @@ signal-high panel program n s high same g = let e = same .size in let l = g .hig
 module _ (b : Buffers) (c : Call) (lent : sameLengths (lengthsOf b) fixed ≡ true) where
   -- where 44 does not come, a call leaves its outcome
   leaves : ranged (b .panel) (b .program) (b .memory) ≡ true → reply b c .buffers ≡ leaving b (outcomeIn b c)
-  unfolding reply
-  leaves r = rw (lent, r, reply)
-
-  -- and where it comes, the buffers as they were
-  stays : ranged (b .panel) (b .program) (b .memory) ≡ false → reply b c .buffers ≡ b
-  unfolding reply
-  stays r = rw (lent, r, reply)
+  leaves r = ap (λ (x : Reply). x .buffers) (reply-right b c lent r)
 
   left-lengths : sameLengths (lengthsOf (leaving b (outcomeIn b c))) fixed ≡ true
   unfolding sameLengths
@@ -54,14 +49,9 @@ module _ (b : Buffers) (c : Call) (lent : sameLengths (lengthsOf b) fixed ≡ tr
     where
       go : (t : Bool) → ranged (b .panel) (b .program) (b .memory) ≡ t → sameLengths (lengthsOf (reply b c .buffers)) fixed ≡ true
       go true r = subst (λ (d : Buffers). sameLengths (lengthsOf d) fixed ≡ true) (sym (leaves r)) left-lengths
-      go false r = subst (λ (d : Buffers). sameLengths (lengthsOf d) fixed ≡ true) (sym (stays r)) lent
+      go false r = subst (λ (d : Buffers). sameLengths (lengthsOf d) fixed ≡ true) (sym (ap (λ (x : Reply). x .buffers) (reply-44 b c lent r))) lent
 
   module _ (r : ranged (b .panel) (b .program) (b .memory) ≡ true) where
-    -- the answer is the session's, which has no 44
-    pub reply-answer : reply b c .answer ≡ outcomeIn b c .answer
-    unfolding reply
-    reply-answer = rw (lent, r, reply)
-
     -- the memory under the panel with its new head
     left-values : Values (withHead (outcomeIn b c .head) (b .panel)) (leaving b (outcomeIn b c) .memory)
     left-values =

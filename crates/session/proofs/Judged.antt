@@ -34,13 +34,13 @@ module _ (b : Buffers) where
   unfolding readyOf
   wrong-length e = rw e
 
-  pub out-of-range : Sizes b → inRange b ≡ false → OutOfRange ≡ readyOf b
+  pub out-of-range : sameLengths (lengthsOf b) fixed ≡ true → inRange b ≡ false → OutOfRange ≡ readyOf b
   unfolding readyOf
-  out-of-range h e = rw (same-lengths h, e)
+  out-of-range l e = rw (l, e)
 
-  pub in-range : Sizes b → inRange b ≡ true → Right ≡ readyOf b
+  pub in-range : sameLengths (lengthsOf b) fixed ≡ true → inRange b ≡ true → Right ≡ readyOf b
   unfolding readyOf
-  in-range h e = rw (same-lengths h, e)
+  in-range l e = rw (l, e)
 
 -- right buffers have their lengths, and their numbers are in range
 isRight : Ready → Bool

@@ -20,12 +20,12 @@ in-range-requires c κs =
 returns-2 : tie.Need-returns-2
 returns-2 c =
     let test = c .before .before in
-    out-of-range _ (same-sizes _ _ _ (passes _ _ (test .before .lengths-right .ensures) (test .if1 .left))) (fails _ _ (c .before .in-range .ensures) (c .if2 .taken))
+    out-of-range _ (passes _ _ (test .before .lengths-right .ensures) (test .if1 .left)) (fails _ _ (c .before .in-range .ensures) (c .if2 .taken))
 
 returns-3 : tie.Need-returns-3
 returns-3 c =
     let test = c .before .before in
-    in-range _ (same-sizes _ _ _ (passes _ _ (test .before .lengths-right .ensures) (test .if1 .left))) (passes _ _ (c .before .in-range .ensures) (c .if2 .left))
+    in-range _ (passes _ _ (test .before .lengths-right .ensures) (test .if1 .left)) (passes _ _ (c .before .in-range .ensures) (c .if2 .left))
 
 pub readiness-spec : {M : Type 1} → statement M
 readiness-spec = tie.close (tie.spec lengths-right-requires returns in-range-requires returns-2 returns-3)
