@@ -13,7 +13,7 @@ ghost use Rattle.model.specs.Network.{Network};
 ghost use Rattle.model.specs.Schedule.{modProcessors, modSlots, modField, modHeader, modSlot, eachLine, modSurplus};
 ghost use Rattle.schedule.specs.Answer.{Answers, Sized};
 ghost use Rattle.schedule.specs.Form.{formCheck};
-ghost use Rattle.schedule.specs.Layout.{pairLaid, pairAt, operandsAt, senderLaid, lineAt};
+ghost use Rattle.schedule.specs.Layout.{pairLaid, pairAt, operandsAt, lineAt};
 
 // MOD accepted with P and C, or refused: with a line, and at 22 with a signal.
 pub enum ModAnswer {
@@ -81,16 +81,6 @@ fn pair_right(part: u16, location: u16, most: u16, slots: u16) -> bool
     part <= most
 }
 
-// "processors below P", or none.
-fn sender_right(sender: u16, processors: u16) -> bool
-    ensures { λ r. ⌜ r ≡ senderLaid processors sender ⌝ }
-{
-    if sender < processors {
-        return true;
-    }
-    sender == 99
-}
-
 // The pair at a place.
 fn pair_at(table: &[u8], at: usize, most: u16, slots: u16) -> bool
     requires { ⌜ (isFieldAt (now table) at ≡ true) × (isFieldAt (now table) (at + 6) ≡ true) ⌝ }
@@ -149,7 +139,7 @@ fn line_laid(
     if !pair_at(table, at + 66, 1, slots) {
         return false;
     }
-    sender_right(fields::number_at(table, at + 78), processors)
+    operands::sender_right(fields::number_at(table, at + 78), processors)
 }
 
 // P × C.

@@ -1,9 +1,9 @@
 use Rattle.logic.proofs.Tests.{decided}
 use Rattle.logic.specs.Test.{_or_}
-use Rattle.schedule.specs.Layout.{senderLaid}
+use Rattle.operands.specs.Sender.{senderLaid}
 use borrow.Author.Needs.{needs}
-use Rattle.schedule.proofs.sender_right.Statement.{statement}
-use Rattle.schedule.proofs.sender_right.Tie as tie
+use Rattle.operands.proofs.sender_right.Statement.{statement}
+use Rattle.operands.proofs.sender_right.Tie as tie
 
 returns : tie.Need-returns
 unfolding senderLaid _or_
