@@ -66,7 +66,7 @@ pub fn check_files(net: &[u8], table: &[u8], stim: &[u8]) -> FileAnswer
     let NetAnswer::Accepted(_) = first else {
         return net_answer(first);
     };
-    let second = schedule::check_mod(net, table);
+    let second = wiring::check_mod(net, table);
     let ModAnswer::Accepted(_, _) = second else {
         return mod_answer(second);
     };

@@ -23,7 +23,7 @@ use Rattle.model.specs.Demands.{Trace, end, next, Demand3}
 use Rattle.model.proofs.Machine.{Near}
 use Rattle.model.proofs.Session.{Like}
 use Rattle.model.proofs.Keeping.{kept-places, kept-near, keeps}
-use Rattle.model.proofs.Accepted.{net-accepted, mod-accepted, net-size, mod-processors, mod-slots}
+use Rattle.model.proofs.Accepted.{net-accepted, mod-accepted, net-size}
 use Rattle.model.proofs.Demands.{accepted-formed, accepted-acyclic, accepted-scheduled, placeOf, placed-there}
 use Rattle.model.proofs.Traces.{demand-3}
 use Rattle.memory.specs.Memory.{memoryLength, within}
@@ -38,15 +38,16 @@ use Rattle.loading.proofs.Loaded.{loaded-network, loaded-head, loaded-holding, 
 use Rattle.answers.specs.Answers.{answerBits}
 use Rattle.opening.specs.Opened.{openCheck, leftBy, openBits}
 use Rattle.opening.proofs.Opened.{opened-ranged}
-use Rattle.engine.proofs.Valued.{opening-holds}
+use Rattle.engine.proofs.Valued.{processors-few, slots-few, opening-holds}
 use Rattle.header.specs.Header.{headIn, withHead}
-use Rattle.header.specs.Commands.{fixed}
+use Rattle.lengths.specs.Lengths.{fixed}
 use Rattle.session.specs.Reply.{Buffers, buffersOf, lengthsOf, Reply, reply}
 use Rattle.session.proofs.Judged.{same-lengths}
+use Rattle.session.proofs.Replies.{reply-40, reply-right}
 use Rattle.kept.proofs.Heads.{with-head-finished, with-head-hand, with-head-watched, with-head-mask}
-use Rattle.kept.proofs.Replies.{reply-lengths, reply-ranged, reply-holding, reply-answer}
+use Rattle.kept.proofs.Replies.{reply-lengths, reply-ranged, reply-holding}
 use Rattle.demand.specs.Lending.{working, openedBy, Opens, Post, own, other, Throughout, EveryAnswer, numberOf}
-use Rattle.demand.proofs.Chained.{Good, meets, reply-wrong}
+use Rattle.demand.proofs.Chained.{Good, meets}
 use Rattle.demand.proofs.Refusals.{outcome-low}
 
 -- equal lengths
@@ -108,11 +109,11 @@ module _ (f : Network) (g : Module) where
   -- 44 never comes
   answer-low : (b : Buffers) (c : Lent) (a : Answer) (b′ : Buffers) → Good f g b → Post b c a b′ → numberOf a ≤ 43
   answer-low b c a b′ good (own e q r) =
-      subst (λ (x : Answer). numberOf x ≤ 43) (sym (q ∙ reply-answer b (c .call) (good .lengths) (good .range)))
+      subst (λ (x : Answer). numberOf x ≤ 43) (sym (q ∙ ap (λ (x : Reply). x .answer) (reply-right b (c .call) (good .lengths) (good .range))))
       (outcome-low (networkIn (b .panel) (b .program)) _ (headIn (b .panel)) _ (record { lengths = lengthsOf b; call = c .call }))
   answer-low b c a b′ good (other lent e l q r) =
       subst (λ (x : Answer). numberOf x ≤ 43)
-      (sym (q ∙ ap (λ (x : Reply). x .answer) (reply-wrong lent c (ap (λ (x : Lengths). sameLengths x fixed) e ∙ l)))) forty
+      (sym (q ∙ ap (λ (x : Reply). x .answer) (reply-40 lent (c .call) (ap (λ (x : Lengths). sameLengths x fixed) e ∙ l)))) forty
     where
       forty : 40 ≤ 43
       forty = omega arith
@@ -168,9 +169,9 @@ module _ (files : Files) (accepted : Accepted panelLimit files) where
         lengths =
             same-lengths opened
             (record {
-              panel = tables .panel-size;
-              program = tables .program-size;
-              memory = written-length (within (modProcessors (files .MOD)) (modSlots (files .MOD))) (opening m (start n (givenOf files))) (listed memoryLength (λ a. 0));
+              panel-size = tables .panel-size;
+              program-size = tables .program-size;
+              memory-size = written-length (within (modProcessors (files .MOD)) (modSlots (files .MOD))) (opening m (start n (givenOf files))) (listed memoryLength (λ a. 0));
             });
         range = range;
         holding = holding;
@@ -189,7 +190,7 @@ module _ (files : Files) (accepted : Accepted panelLimit files) where
         let slot : (ℕ → ℕ) = λ s. placeOf panelLimit files accepted s .1 in
         demand-3 working fixed n m processor slot (Near m) (givenOf files)
         (keeps formed acyclic ok (givenOf files) processor slot placed) (kept-places formed acyclic ok (givenOf files)) (kept-near formed acyclic ok (givenOf files))
-        Post (Good n m) (meets ok few short processor slot placed (head-back n m)) (stays n m)
+        Post (Good n m) (meets ok (processors-few files accepted) (slots-few files accepted) processor slot placed (head-back n m)) (stays n m)
         t (fresh (givenOf files)) []
         (record {
           good = good;
@@ -199,12 +200,6 @@ module _ (files : Files) (accepted : Accepted panelLimit files) where
           rows-finished = refl;
         })
       where
-        few : m .processors ≤ 16
-        few = mod-processors n (files .MOD) (mod-accepted panelLimit files accepted) .1
-
-        short : m .slots ≤ 256
-        short = mod-slots n (files .MOD) (mod-accepted panelLimit files accepted) .1
-
         size : (1 ≤ n .size) × (n .size ≤ 4096)
         size = net-size panelLimit (files .NET) (net-accepted panelLimit files accepted)
 

@@ -20,7 +20,7 @@ use Rattle.tables.specs.Tables.{networkIn, moduleIn}
 use Rattle.tables.specs.Holding.{Holding}
 use Rattle.engine.proofs.Same.{near-trans, cycle-same}
 use Rattle.header.specs.Header.{headIn}
-use Rattle.header.specs.Commands.{fixed}
+use Rattle.lengths.specs.Lengths.{fixed}
 
 -- a call that is not refused does not ask for the network
 perform-same : (n f : Network) (E : Engine) (h : Head) (x : E .State) (c : Call) → perform fixed n E h x c ≡ perform fixed f E h x c

@@ -7,7 +7,7 @@ use Rattle.logic.specs.Test.{_and_}
 use Rattle.model.specs.Refusal.{Check, pass, fail, first, unless}
 use Rattle.model.specs.Network.{Network, input, isSignal}
 use Rattle.model.specs.Session.{Engine, Head, Call, set, watch, read, run, Lent, sameLengths, callCheck, lentCheck, running, perform, meet, outcome}
-use Rattle.header.specs.Commands.{fixed}
+use Rattle.lengths.specs.Lengths.{fixed}
 use Rattle.demand.specs.Lending.{numberOf}
 
 -- the number of a check that fails, 0 where it passes

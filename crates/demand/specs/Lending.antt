@@ -12,7 +12,7 @@ use Rattle.memory.specs.Memory.{memoryOf}
 use Rattle.loading.specs.Loaded.{panelOf, programOf, openingBytes}
 use Rattle.opening.specs.Opened.{openingCheck, leftBy, openBits}
 use Rattle.header.specs.Header.{headIn}
-use Rattle.header.specs.Commands.{fixed}
+use Rattle.lengths.specs.Lengths.{fixed}
 use Rattle.session.specs.Reply.{Buffers, lengthsOf, reply}
 
 -- what the session's buffers hold

@@ -31,6 +31,14 @@ use Rattle.machine.specs.Running.{cycleIn, watchedValue, runIn}
 use Rattle.loading.specs.Loaded.{openingBytes}
 use Rattle.engine.proofs.Same.{cycle-same}
 
+-- a memory written into the module's locations of the bytes is the bytes' memory there
+pub written-near : {n : Network} {m : Module} {panel program : List ℕ} → Holding n m panel program → m .processors ≤ 16 → m .slots ≤ 256
+    → (w : Memory) (old : List ℕ) → Near m (memoryOf (held (processorsIn panel) (slotsIn panel) w old)) w
+unfolding moduleIn
+written-near {n} {m} {panel} {program} holding few short w old =
+    subst (λ (c : ℕ). Near m (memoryOf (held (processorsIn panel) c w old)) w) (sym (holding .lines .slots))
+    (subst (λ (p : ℕ). Near m (memoryOf (held p (m .slots) w old)) w) (sym (holding .lines .processors)) (held-near m few short w old))
+
 module _ (files : Files) (accepted : Accepted panelLimit files) where
   abbrev n : Network
   n = networkOf files
@@ -51,22 +59,15 @@ module _ (files : Files) (accepted : Accepted panelLimit files) where
   abbrev pub Holds : List ℕ → List (ℕ → ℕ) → Type 0
   Holds bytes rows = Kept formed acyclic ok (givenOf files) (memoryOf bytes) rows
 
-  few : m .processors ≤ 16
+  pub processors-few : m .processors ≤ 16
   unfolding moduleOf
-  few = mod-processors n (files .MOD) (mod-accepted panelLimit files accepted) .1
+  processors-few = mod-processors n (files .MOD) (mod-accepted panelLimit files accepted) .1
 
-  short : m .slots ≤ 256
+  pub slots-few : m .slots ≤ 256
   unfolding moduleOf
-  short = mod-slots n (files .MOD) (mod-accepted panelLimit files accepted) .1
+  slots-few = mod-slots n (files .MOD) (mod-accepted panelLimit files accepted) .1
 
   module _ (panel program : List ℕ) (holding : Holding n m panel program) where
-    -- a memory written into the module's locations of the bytes is the bytes' memory there
-    written-near : (w : Memory) (old : List ℕ) → Near m (memoryOf (held (processorsIn panel) (slotsIn panel) w old)) w
-    unfolding moduleIn
-    written-near w old =
-        subst (λ (c : ℕ). Near m (memoryOf (held (processorsIn panel) c w old)) w) (sym (holding .lines .slots))
-        (subst (λ (p : ℕ). Near m (memoryOf (held p (m .slots) w old)) w) (sym (holding .lines .processors)) (held-near m few short w old))
-
     -- the tables' machine keeps step, with rows that have the inputs' values in hand
     cycle-kept : (row : ℕ → ℕ) → SameInputs n (handIn panel) row → (w : Memory) (rows : List (ℕ → ℕ))
         → Kept formed acyclic ok (givenOf files) w rows → Kept formed acyclic ok (givenOf files) (cycleIn panel program w) (row ∷ rows)
@@ -87,7 +88,7 @@ module _ (files : Files) (accepted : Accepted panelLimit files) where
     written-kept : (w : Memory) (old : List ℕ) (rows : List (ℕ → ℕ)) → Kept formed acyclic ok (givenOf files) w rows
         → Holds (held (processorsIn panel) (slotsIn panel) w old) rows
     written-kept w old rows k =
-        kept-near formed acyclic ok (givenOf files) (memoryOf (held (processorsIn panel) (slotsIn panel) w old)) w rows (written-near w old) k
+        kept-near formed acyclic ok (givenOf files) (memoryOf (held (processorsIn panel) (slotsIn panel) w old)) w rows (written-near holding processors-few slots-few w old) k
 
     -- one cycle, as its contract leaves the bytes
     pub cycle-holds : (bytes left : List ℕ) (row : ℕ → ℕ) (rows : List (ℕ → ℕ)) → SameInputs n (handIn panel) row → Holds bytes rows
@@ -127,5 +128,5 @@ module _ (files : Files) (accepted : Accepted panelLimit files) where
   unfolding openingBytes moduleOf
   opening-holds =
       kept-near formed acyclic ok (givenOf files) (memoryOf (openingBytes (files .NET) (files .MOD) (files .STIM))) (opening m (start n (givenOf files))) []
-      (held-near m few short (opening m (start n (givenOf files))) (listed memoryLength (λ a. 0)))
+      (held-near m processors-few slots-few (opening m (start n (givenOf files))) (listed memoryLength (λ a. 0)))
       (kept-opening formed acyclic ok (givenOf files))

@@ -3,7 +3,4 @@ pub mod Scanning
 pub mod Columns
 pub mod Lines
 pub mod LowHalf
-pub mod Writing
-pub mod Spelling
-pub mod RoundTrip
 pub mod Taken

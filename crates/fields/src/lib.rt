@@ -1,14 +1,12 @@
-// Six-column fields and their lines: reading at any place of a byte slice, and writing.
+// Six-column fields and their lines, read at any place of a byte slice.
 
 ghost use mathlib.Core.Path.{_≡_};
 ghost use mathlib.Core.Bool.{true};
-ghost use Prim.Native.Nat.{_+_, _%_, _<_, _≤_};
+ghost use Prim.Native.Nat.{_+_, _%_, _≤_};
 ghost use lib.Dec.{eqb};
 ghost use lib.ListN.{length, getD};
-ghost use lib.Seq.{sets};
 ghost use Rattle.fields.specs.Field.{isFieldAt, numberAt};
-ghost use Rattle.fields.specs.Line.{newline, lineLength};
-ghost use Rattle.fields.specs.Text.{columnOf, fieldText, lineText};
+ghost use Rattle.fields.specs.Line.{newline};
 ghost use Rattle.fields.specs.Reading.{readField, readLine};
 ghost use Rattle.fields.specs.Scan.{extended, scan, fieldOf, lowNumber};
 
@@ -165,48 +163,4 @@ pub fn number_at(s: &[u8], at: usize) -> u16
     ensures { λ r. ⌜ r ≡ numberAt (now (s .entry)) at ⌝ }
 {
     low_number(s, at) as u16
-}
-
-// The byte of n's column of the given weight.
-fn column(n: u16, weight: u16) -> u8
-    requires { ⌜ 0 < weight ⌝ }
-    ensures { λ r. ⌜ r ≡ columnOf n weight ⌝ }
-{
-    if weight <= n {
-        return (48 + n / weight % 10) as u8;
-    }
-    if weight == 1 {
-        return 48;
-    }
-    32
-}
-
-// n's field, written at a place. The column of weight 100000 is above every number.
-pub fn write_field(out: &mut [u8], at: usize, n: u16)
-    requires { ⌜ at + 6 ≤ length (now out) ⌝ }
-    ensures { λ _. ⌜ now (out .exit) ≡ sets (now (out .entry)) at (fieldText n) ⌝ }
-{
-    out[at] = 32;
-    out[at + 1] = column(n, 10000);
-    out[at + 2] = column(n, 1000);
-    out[at + 3] = column(n, 100);
-    out[at + 4] = column(n, 10);
-    out[at + 5] = column(n, 1);
-}
-
-// The line of some numbers, written at a place; the place after it.
-pub fn write_line(out: &mut [u8], at: usize, numbers: &[u16]) -> usize
-    requires { ⌜ at + lineLength (length (now numbers)) ≤ length (now out) ⌝ }
-    ensures { λ r. ⌜ r ≡ at + lineLength (length (now (numbers .entry))) ⌝ }
-    ensures { λ _. ⌜ now (out .exit) ≡ sets (now (out .entry)) at (lineText (now (numbers .entry))) ⌝ }
-{
-    let mut place = at;
-    let mut k = 0;
-    while k < numbers.len() {
-        write_field(out, place, numbers[k]);
-        place += 6;
-        k += 1;
-    }
-    out[place] = 10;
-    place + 1
 }

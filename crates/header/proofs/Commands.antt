@@ -17,7 +17,8 @@ use Rattle.tables.specs.Tables.{networkIn, moduleIn}
 use Rattle.answers.specs.Answers.{callAnswer}
 use Rattle.header.specs.declared.Told.{Told}
 use Rattle.header.specs.Header.{headOf}
-use Rattle.header.specs.Commands.{fixed, signalIn, inputIn, withValue, commanded, Tells}
+use Rattle.lengths.specs.Lengths.{fixed}
+use Rattle.header.specs.Commands.{signalIn, inputIn, withValue, commanded, Tells}
 
 -- the tests of the commands
 module _ (panel : List ℕ) (s : ℕ) where

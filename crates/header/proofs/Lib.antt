@@ -1,4 +1,3 @@
-pub mod Filling
 pub mod Stored
 pub mod Heads
 pub mod Commands

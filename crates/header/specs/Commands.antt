@@ -7,18 +7,14 @@ use lib.Dec.{eqb, leb}
 use Rattle.logic.specs.Test.{_and_}
 use Rattle.model.specs.Network.{input}
 use Rattle.model.specs.Machine.{Memory}
-use Rattle.model.specs.Session.{lockstep, Head, Call, Lengths, Outcome, callCheck, replaced, meet}
-use Rattle.memory.specs.Memory.{memoryLength, memoryOf}
-use Rattle.tables.specs.Panel.{panelLength, signalsIn, kindIn, processorIn, slotIn}
-use Rattle.tables.specs.Program.{programLength}
+use Rattle.model.specs.Session.{lockstep, Head, Call, Outcome, callCheck, replaced, meet}
+use Rattle.memory.specs.Memory.{memoryOf}
+use Rattle.tables.specs.Panel.{signalsIn, kindIn, processorIn, slotIn}
 use Rattle.tables.specs.Tables.{networkIn, moduleIn}
+use Rattle.lengths.specs.Lengths.{fixed}
 use Rattle.answers.specs.Answers.{callAnswer}
 use Rattle.header.specs.declared.Told.{Told}
 use Rattle.header.specs.Header.{headOf}
-
--- the lengths that docs/PANEL.md gives
-abbrev pub fixed : Lengths
-fixed = record { panel = panelLength; program = programLength; memory = memoryLength }
 
 abbrev pub commanded : List ℕ → List ℕ → List ℕ → Head → Call → Outcome Memory
 commanded panel program memory head call =

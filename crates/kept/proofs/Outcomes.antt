@@ -1,19 +1,17 @@
--- What a call over buffers in range leaves is in range: the head's numbers by 41, 42 and 43, the memory since a run is so many cycles.
-use Prim.Native.Nat.{ℕ, _+_, _≤_}
+-- What a call over buffers in range leaves is in range: the head's numbers by 41 and 42, the memory since a run is so many cycles.
+use Prim.Native.Nat.{ℕ, _≤_}
 use mathlib.Core.Path.{_≡_, refl}
 use mathlib.Core.Bool.{Bool, true}
 use mathlib.Core.List.{List}
-use native.Mathlib.Omega.{arith}
 use borrow.Author.Tests.{leb-true}
 use Rattle.logic.proofs.Tests.{and-left, and-right}
 use Rattle.model.specs.Refusal.{Check, pass, fail}
 use Rattle.model.proofs.Refusals.{first-left, first-right, unless-true}
 use Rattle.model.specs.Network.{Network, Signal, isSignal}
 use Rattle.model.specs.Module.{Module, Laid}
-use Rattle.model.specs.Machine.{Memory, cycle}
+use Rattle.model.specs.Machine.{Memory}
 use Rattle.model.specs.Session.{Engine, lockstep, watched, Call, set, watch, read, run, Outcome, callCheck, lentCheck, running, perform, meet, outcome}
 use Rattle.model.proofs.Machine.{Small}
-use Rattle.model.proofs.Runs.{runs-exact}
 use Rattle.memory.specs.Memory.{memoryOf}
 use Rattle.tables.specs.Panel.{signalsIn, finishedIn, handIn, processorIn, slotIn}
 use Rattle.tables.specs.Tables.{networkIn, moduleIn}
@@ -21,15 +19,14 @@ use Rattle.ranges.specs.Ranges.{ranged}
 use Rattle.ranges.proofs.Laid.{lines-laid}
 use Rattle.ranges.proofs.Ranged.{panel-in-range, program-in-range}
 use Rattle.header.specs.Header.{headIn}
-use Rattle.header.specs.Commands.{fixed}
+use Rattle.lengths.specs.Lengths.{fixed}
 use Rattle.session.specs.Reply.{Buffers, lengthsOf, outcomeIn}
 use Rattle.kept.proofs.Panels.{InRange, head-in-range, with-value-in-range}
 use Rattle.kept.proofs.Memories.{small-in, run-small}
 
--- an outcome in range. The cycles finished are at most 65535, "as every number of two bytes", where they were.
+-- an outcome in range
 pub record Kept (panel program : List ℕ) (o : Outcome Memory) : Type 0 where
   pub head : InRange panel (o .head)
-  pub finished : finishedIn panel ≤ 65535 → o .head .finished ≤ 65535
   pub state : Small (moduleIn panel program) (o .state)
 
 -- 41
@@ -69,19 +66,16 @@ module _ (b : Buffers) (r : ranged (b .panel) (b .program) (b .memory) ≡ true)
   perform-kept (set s v) e =
       let t = known-signal panel (b .program) s (and-left _ _ (unless-true _ _ _ (first-left _ _ e))) in
       let l = leb-true v 3 (unless-true _ _ _ (first-right _ _ e)) in
-      record { head = with-value-in-range panel (headIn panel) here s v (t .1) l; finished = λ h. h; state = small }
+      record { head = with-value-in-range panel (headIn panel) here s v (t .1) l; state = small }
   perform-kept (watch s mask) e =
       let t = known-signal panel (b .program) s (unless-true _ _ _ (first-left _ _ e)) in
       let l = leb-true mask 15 (unless-true _ _ _ (first-right _ _ e)) in
       record {
         head = record { watched-low = t .0; watched-high = t .1; mask-high = l; hands = here .hands; rest = here .rest };
-        finished = λ h. h;
         state = small;
       }
-  perform-kept (read s) e = record { head = here; finished = λ h. h; state = small }
+  perform-kept (read s) e = record { head = here; state = small }
   perform-kept (run k) e =
-      let l = leb-true (finishedIn panel + k) 65535 (unless-true _ _ _ e) in
-      let most = runs-exact (cycle n m (handIn panel)) stops k (memoryOf (b .memory)) .most in
       record {
         head =
             record {
@@ -91,7 +85,6 @@ module _ (b : Buffers) (r : ranged (b .panel) (b .program) (b .memory) ≡ true)
               hands = here .hands;
               rest = here .rest;
             };
-        finished = λ h. omega arith;
         state = run-small panel (b .program) laid (handIn panel) codes stops k (memoryOf (b .memory)) small;
       }
     where
@@ -105,4 +98,4 @@ module _ (b : Buffers) (r : ranged (b .panel) (b .program) (b .memory) ≡ true)
       go : (k : Check) → lentCheck fixed n (finishedIn panel) (record { lengths = lengthsOf b; call = c }) ≡ k
           → Kept panel (b .program) (meet fixed n E (headIn panel) (memoryOf (b .memory)) c k)
       go pass e = perform-kept c (first-right _ _ e)
-      go (fail number returned) e = record { head = here; finished = λ h. h; state = small }
+      go (fail number returned) e = record { head = here; state = small }

@@ -1,7 +1,6 @@
 -- 44 never comes in a session: every call leaves working buffers that are of their lengths and in range so, and tables that hold a
 -- network and a module still hold them.
-use Prim.Native.Nat.{ℕ, _≤_}
-use mathlib.Core.Path.{_≡_, refl, sym, subst}
+use mathlib.Core.Path.{_≡_, refl, sym, subst, ap}
 use mathlib.Core.Bool.{Bool, true, false}
 use borrow.Author.Tests.{eq-eqb}
 use Rattle.logic.proofs.Tests.{and-true, and-left, and-right}
@@ -10,15 +9,16 @@ use Rattle.model.specs.Module.{Module}
 use Rattle.model.specs.Session.{Call, sameLengths}
 use Rattle.memory.specs.Memory.{memoryLength, within}
 use Rattle.memory.proofs.Written.{written-length}
-use Rattle.tables.specs.Panel.{panelLength, processorsIn, slotsIn, finishedIn}
+use Rattle.tables.specs.Panel.{panelLength, processorsIn, slotsIn}
 use Rattle.tables.specs.Holding.{Holding}
 use Rattle.ranges.specs.Ranges.{ranged}
 use Rattle.ranges.proofs.Ranged.{Values, is-ranged, panel-in-range, program-in-range, memory-in-range, head-ranged}
 use Rattle.header.specs.Header.{withHead}
-use Rattle.header.specs.Commands.{fixed}
-use Rattle.session.specs.Reply.{Buffers, lengthsOf, outcomeIn, leaving, reply}
-use Rattle.kept.proofs.Heads.{with-head-length, with-head-processors, with-head-slots, with-head-finished}
+use Rattle.session.specs.Reply.{Buffers, lengthsOf, outcomeIn, leaving, reply, Reply}
+use Rattle.kept.proofs.Heads.{with-head-length, with-head-processors, with-head-slots}
 use Rattle.kept.proofs.Holding.{with-head-holding}
+use Rattle.lengths.specs.Lengths.{fixed}
+use Rattle.session.proofs.Replies.{reply-44, reply-right}
 use Rattle.kept.proofs.Panels.{with-head-panel, with-head-program}
 use Rattle.kept.proofs.Memories.{held-values}
 use Rattle.kept.proofs.Outcomes.{outcome-kept}
@@ -26,13 +26,7 @@ use Rattle.kept.proofs.Outcomes.{outcome-kept}
 module _ (b : Buffers) (c : Call) (lent : sameLengths (lengthsOf b) fixed ≡ true) where
   -- where 44 does not come, a call leaves its outcome
   leaves : ranged (b .panel) (b .program) (b .memory) ≡ true → reply b c .buffers ≡ leaving b (outcomeIn b c)
-  unfolding reply
-  leaves r = rw (lent, r, reply)
-
-  -- and where it comes, the buffers as they were
-  stays : ranged (b .panel) (b .program) (b .memory) ≡ false → reply b c .buffers ≡ b
-  unfolding reply
-  stays r = rw (lent, r, reply)
+  leaves r = ap (λ (x : Reply). x .buffers) (reply-right b c lent r)
 
   left-lengths : sameLengths (lengthsOf (leaving b (outcomeIn b c))) fixed ≡ true
   unfolding sameLengths
@@ -46,14 +40,9 @@ module _ (b : Buffers) (c : Call) (lent : sameLengths (lengthsOf b) fixed ≡ tr
     where
       go : (t : Bool) → ranged (b .panel) (b .program) (b .memory) ≡ t → sameLengths (lengthsOf (reply b c .buffers)) fixed ≡ true
       go true r = subst (λ (d : Buffers). sameLengths (lengthsOf d) fixed ≡ true) (sym (leaves r)) left-lengths
-      go false r = subst (λ (d : Buffers). sameLengths (lengthsOf d) fixed ≡ true) (sym (stays r)) lent
+      go false r = subst (λ (d : Buffers). sameLengths (lengthsOf d) fixed ≡ true) (sym (ap (λ (x : Reply). x .buffers) (reply-44 b c lent r))) lent
 
   module _ (r : ranged (b .panel) (b .program) (b .memory) ≡ true) where
-    -- the answer is the session's, which has no 44
-    pub reply-answer : reply b c .answer ≡ outcomeIn b c .answer
-    unfolding reply
-    reply-answer = rw (lent, r, reply)
-
     -- the memory under the panel with its new head
     left-values : Values (withHead (outcomeIn b c .head) (b .panel)) (leaving b (outcomeIn b c) .memory)
     left-values =
@@ -76,12 +65,6 @@ module _ (b : Buffers) (c : Call) (lent : sameLengths (lengthsOf b) fixed ≡ tr
 
     pub reply-ranged : ranged (reply b c .buffers .panel) (reply b c .buffers .program) (reply b c .buffers .memory) ≡ true
     reply-ranged = subst (λ (d : Buffers). ranged (d .panel) (d .program) (d .memory) ≡ true) (sym (leaves r)) left-ranged
-
-    -- the cycles finished stay a number of two bytes
-    pub reply-finished : finishedIn (b .panel) ≤ 65535 → finishedIn (reply b c .buffers .panel) ≤ 65535
-    reply-finished l =
-        subst (λ (d : Buffers). finishedIn (d .panel) ≤ 65535) (sym (leaves r))
-        (subst (λ (x : ℕ). x ≤ 65535) (sym (with-head-finished (outcomeIn b c .head) (b .panel))) (outcome-kept b r c .finished l))
 
     module _ {n : Network} {m : Module} (holding : Holding n m (b .panel) (b .program)) where
       left-holding : Holding n m (leaving b (outcomeIn b c) .panel) (b .program)

@@ -5,7 +5,7 @@ use lib.ListN.{length, take}
 use lib.Seq.{sets}
 use Rattle.logic.specs.Choice.{if_then_else_}
 use Rattle.fields.specs.Field.{isFieldAt, numberAt}
-use Rattle.fields.specs.Text.{fieldText}
+use Rattle.writing.specs.Text.{fieldText}
 
 -- the sum of the numbers of the fields from a place on, up to the first that is not right; at most n are looked at, and a text
 -- has fewer fields than bytes

@@ -70,7 +70,7 @@ pub extern "C" fn kernel_write(out: &mut [u8], numbers: &[u16]) -> u64
     let count = least(numbers.len(), out.len() / 6);
     let mut k: usize = 0;
     while k < count {
-        fields::write_field(out, 6 * k, numbers[k]);
+        writing::write_field(out, 6 * k, numbers[k]);
         k += 1;
     }
     count as u64

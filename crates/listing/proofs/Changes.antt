@@ -10,8 +10,8 @@ use lib.Dec.{eqb}
 use lib.ListN.{length, getD, set, length-set, length-append}
 use lib.Seq.{sets, length-sets, getD-set-same, getD-set-other}
 use borrow.Author.Tests.{eq-eqb, ne-eqb}
-use Rattle.fields.specs.Text.{fieldText, lineText}
-use Rattle.fields.proofs.Writing.{sets-append, length-fields}
+use Rattle.writing.specs.Text.{fieldText, lineText}
+use Rattle.writing.proofs.Writing.{sets-append, length-fields}
 use Rattle.model.specs.Listing.{joined}
 use Rattle.listing.specs.Changes.{shownLength, changeLine, changeLines, Shows}
 

@@ -44,13 +44,13 @@ module _ (h : Head) (panel program memory : List ℕ) (ready : Ready h panel pro
   in-range = with-head-ranged h panel (ready .sound .range) program memory (ready .right .range)
 
   pub fresh-tables : Tables fresh program
-  fresh-tables = ranged-tables fresh program memory (with-head-length h panel) (ready .right .program-size) in-range
+  fresh-tables = ranged-tables fresh program memory (with-head-length h panel) (ready .right .sizes .program-size) in-range
 
   pub fresh-watching : Watching fresh
   fresh-watching = ranged-watching fresh program memory in-range
 
   pub fresh-memory : MemoryBytes memory
-  fresh-memory = ranged-memory panel program memory (ready .right .memory-size) (ready .right .range)
+  fresh-memory = ranged-memory panel program memory (ready .right .sizes .memory-size) (ready .right .range)
 
   pub fresh-head : h ≡ headIn fresh
   fresh-head = head-again h panel (ready .sound)
@@ -92,9 +92,7 @@ module _ (h : Head) (panel program memory : List ℕ) (ready : Ready h panel pro
       → Right fresh program memory′
   cycle-right memory′ e =
       record {
-        panel-size = with-head-length h panel;
-        program-size = ready .right .program-size;
-        memory-size = rw e (written-length _ _ memory);
+        sizes = record { panel-size = with-head-length h panel; program-size = ready .right .sizes .program-size; memory-size = rw e (written-length _ _ memory) };
         range = is-ranged fresh program memory′ (panel-in-range fresh program memory in-range) (program-in-range fresh program memory in-range) values;
       }
     where

@@ -51,9 +51,11 @@ module _ (files : Files) (accepted : Accepted panelLimit files) where
   opened-right =
       let tables = loaded-tables (files .NET) (files .MOD) (net-accepted panelLimit files accepted) (mod-accepted panelLimit files accepted) (files .STIM) in
       record {
-        panel-size = tables .panel-size;
-        program-size = tables .program-size;
-        memory-size = written-length (within (modProcessors (files .MOD)) (modSlots (files .MOD))) (opening (scheduleOf files) (start (networkOf files) (givenOf files))) (listed memoryLength (λ a. 0));
+        sizes = record {
+          panel-size = tables .panel-size;
+          program-size = tables .program-size;
+          memory-size = written-length (within (modProcessors (files .MOD)) (modSlots (files .MOD))) (opening (scheduleOf files) (start (networkOf files) (givenOf files))) (listed memoryLength (λ a. 0));
+        };
         range = opened-ranged files accepted;
       }
 
@@ -79,7 +81,7 @@ module _ (files : Files) (accepted : Accepted panelLimit files) where
         finished = ap (λ (h : Head). h .finished) head ∙ zeroth .0;
         mask = ap (λ (h : Head). h .watch .mask) head ∙ zeroth .2;
         right = opened-right;
-        sound = subst (λ (h : Head). Sound panel h) (sym head) (head-sound panel (opened-right .panel-size) own (panel-in-range panel program memory (opened-right .range)));
+        sound = subst (λ (h : Head). Sound panel h) (sym head) (head-sound panel (opened-right .sizes .panel-size) own (panel-in-range panel program memory (opened-right .range)));
         passed = passed;
         hands = λ s g i. ap (λ (h : Head). h .hand s) head ∙ opened-hands (l .cursor .line) passed s g;
         holding = loaded-holding (files .NET) (files .MOD) (net-accepted panelLimit files accepted) (mod-accepted panelLimit files accepted) (files .STIM);

@@ -4,7 +4,7 @@ use mathlib.Core.Path.{_≡_}
 use mathlib.Core.List.{[], _∷_}
 use native.Mathlib.Omega.{arith}
 use borrow.Author.Tests.{lt-ltb, le-ltb, ne-eqb}
-use Rattle.fields.specs.Text.{lineText}
+use Rattle.writing.specs.Text.{lineText}
 use Rattle.model.specs.Files.{Files}
 use Rattle.model.specs.Network.{Signal}
 use Rattle.model.specs.Value.{start, VAL, history}

@@ -9,7 +9,7 @@ use lib.ListN.{length, getD}
 use lib.Seq.{sets}
 use borrow.Author.Tests.{le-leb, eq-eqb}
 use Rattle.logic.proofs.Tests.{and-true}
-use Rattle.fields.specs.Text.{lineText}
+use Rattle.writing.specs.Text.{lineText}
 use Rattle.fields.proofs.LowHalf.{number-small}
 use Rattle.model.specs.Refusal.{pass}
 use Rattle.model.specs.Files.{Files}
@@ -60,7 +60,7 @@ module _ {panel program memory : List ℕ} (right : Right panel program memory) 
   right-processor = ranged-processor panel program memory (right .range)
 
   pub right-memory : MemoryBytes memory
-  right-memory = ranged-memory panel program memory (right .memory-size) (right .range)
+  right-memory = ranged-memory panel program memory (right .sizes .memory-size) (right .range)
 
 module _ (files : Files) (accepted : Accepted panelLimit files) where
   abbrev n : Network

@@ -6,7 +6,7 @@ use mathlib.Core.List.{List, [], _∷_}
 use lib.Dec.{eqb}
 use lib.ListN.{length, getD}
 use Rattle.logic.specs.Choice.{if_then_else_}
-use Rattle.fields.specs.Text.{lineText}
+use Rattle.writing.specs.Text.{lineText}
 use Rattle.model.specs.Listing.{joined}
 use Rattle.memory.specs.Memory.{memoryOf}
 use Rattle.tables.specs.Panel.{processorIn, slotIn}

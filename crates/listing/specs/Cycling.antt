@@ -5,17 +5,13 @@ use mathlib.Core.Bool.{true}
 use mathlib.Core.List.{List}
 use lib.ListN.{length}
 use Rattle.model.specs.Session.{Head}
-use Rattle.memory.specs.Memory.{memoryLength}
-use Rattle.tables.specs.Panel.{panelLength}
-use Rattle.tables.specs.Program.{programLength}
 use Rattle.ranges.specs.Ranges.{ranged}
+use Rattle.lengths.proofs.Sizes.{Sizes}
 use Rattle.kept.proofs.Sound.{Sound}
 
 -- working buffers of their lengths and in range
 pub record Right (panel program memory : List ℕ) : Type 0 where
-  pub panel-size : length panel ≡ panelLength
-  pub program-size : length program ≡ programLength
-  pub memory-size : length memory ≡ memoryLength
+  pub sizes : Sizes (length panel) (length program) (length memory)
   pub range : ranged panel program memory ≡ true
 
 -- and a session over them that watches nothing and has a cycle left

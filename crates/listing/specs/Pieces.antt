@@ -3,7 +3,7 @@ use Prim.Native.Nat.{ℕ, zero, suc, _+_}
 use mathlib.Core.List.{List, [], _∷_}
 use lib.Dec.{ltb}
 use Rattle.logic.specs.Choice.{if_then_else_}
-use Rattle.fields.specs.Text.{lineText}
+use Rattle.writing.specs.Text.{lineText}
 use Rattle.model.specs.Files.{Files}
 use Rattle.model.specs.Stimulus.{endTime}
 use Rattle.model.specs.Acceptance.{networkOf}

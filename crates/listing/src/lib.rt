@@ -57,7 +57,7 @@ pub fn write_refusal(answer: FileAnswer, out: &mut [u8]) -> usize
     let FileAnswer::Refused(number, returned) = answer else {
         return 0;
     };
-    fields::write_line(out, 0, &[number as u16, returned])
+    writing::write_line(out, 0, &[number as u16, returned])
 }
 
 // The line of a signal, where its value is not the one last shown; the place after it.
@@ -79,7 +79,7 @@ fn write_change(
     if value == last {
         return at;
     }
-    fields::write_line(out, at, &[time, signal, value as u16])
+    writing::write_line(out, at, &[time, signal, value as u16])
 }
 
 // "each whose value differs from the time before, by time and signal". Before time 0 no value is shown, so that all differ.
@@ -227,7 +227,7 @@ impl Lister {
         let pieces = self.pieces;
         let last = end.0;
         if (last as u32) < pieces {
-            let length = fields::write_line(out, 0, &[last, 0, 0]);
+            let length = writing::write_line(out, 0, &[last, 0, 0]);
             return Piece {
                 lister: Lister {
                     session,

@@ -1,4 +1,3 @@
-pub mod Filling
 pub mod Fields
 pub mod Program
 pub mod Values

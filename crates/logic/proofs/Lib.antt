@@ -4,3 +4,4 @@ pub mod Totals
 pub mod Pigeon
 pub mod Counts
 pub mod Listed
+pub mod Filling

@@ -1,11 +1,11 @@
 -- Laws of `listed`: a list is what its elements are, and a store changes one of them.
 use Prim.Native.Nat.{ℕ, zero, suc, _<_}
-use mathlib.Core.Path.{_≡_, refl, sym, _∙_, ap}
+use mathlib.Core.Path.{_≡_, refl, _∙_, ap}
 use mathlib.Core.Bool.{Bool, true, false}
 use mathlib.Core.List.{List, [], _∷_}
 use native.Mathlib.Omega.{arith}
 use lib.Dec.{eqb}
-use lib.ListN.{length, getD, set, length-set}
+use lib.ListN.{length, getD, set}
 use lib.Seq.{getD-set-same, getD-set-other}
 use borrow.Author.Tests.{eqb-true, eqb-false}
 use Rattle.logic.specs.Choice.{if_then_else_}
@@ -33,11 +33,6 @@ is-listed (x ∷ l) (suc n) f e h =
     let head : x ≡ f 0 = h 0 (omega arith) in
     ap (λ (y : ℕ). y ∷ l) head ∙ ap (λ (r : List ℕ). f 0 ∷ r) rest
 
--- two lists with the same elements
-pub same-elements : (l k : List ℕ) (n : ℕ) → length l ≡ n → length k ≡ n → ((i : ℕ) → i < n → getD l i 0 ≡ getD k i 0) → l ≡ k
-same-elements l k n e q h =
-    is-listed l n (λ i. getD k i 0) e h ∙ sym (is-listed k n (λ i. getD k i 0) q (λ i b. refl))
-
 -- the element after a store
 pub set-at : (l : List ℕ) (i v j : ℕ) → i < length l → getD (set l i v) j 0 ≡ (if eqb j i then v else getD l j 0)
 set-at l i v j h = go (eqb j i) refl
@@ -45,16 +40,3 @@ set-at l i v j h = go (eqb j i) refl
     go : (b : Bool) → eqb j i ≡ b → getD (set l i v) j 0 ≡ (if b then v else getD l j 0)
     go true e = ap (λ (k : ℕ). getD (set l i v) k 0) (eqb-true j i e) ∙ getD-set-same l i v 0 h
     go false e = getD-set-other l i j v 0 (eqb-false j i e)
-
--- a store into a list by its elements
-pub set-listed : (l : List ℕ) (n i v : ℕ) (f : ℕ → ℕ) → length l ≡ n → i < n → f i ≡ v
-    → ((j : ℕ) → j < n → (j ≡ i → ⊥) → getD l j 0 ≡ f j) → set l i v ≡ listed n f
-set-listed l n i v f e b new old = is-listed (set l i v) n f (length-set l i v ∙ e) at
-  where
-    go : (t : Bool) (j : ℕ) → j < n → eqb j i ≡ t → getD (set l i v) j 0 ≡ f j
-    go true j h q =
-        ap (λ (k : ℕ). getD (set l i v) k 0) (eqb-true j i q) ∙ getD-set-same l i v 0 (omega arith) ∙ sym new ∙ ap f (sym (eqb-true j i q))
-    go false j h q = getD-set-other l i j v 0 (eqb-false j i q) ∙ old j h (eqb-false j i q)
-
-    at : (j : ℕ) → j < n → getD (set l i v) j 0 ≡ f j
-    at j h = go (eqb j i) j h refl

@@ -1,16 +1,14 @@
 -- The halves change places, location by location. The invariant of the loops: the locations that were passed hold the other half.
 use Prim.Native.Nat.{ℕ, zero, suc, _+_, _<_}
 use mathlib.Core.Path.{_≡_, refl, sym, _∙_, ap}
-use mathlib.Core.Bool.{Bool, true, false, false≢true}
+use mathlib.Core.Bool.{Bool, true, false}
 use mathlib.Core.List.{List}
 use native.Mathlib.Omega.{arith}
-use lib.Dec.{ltb}
 use lib.ListN.{length, getD, set, length-set}
-use borrow.Author.Tests.{ltb-true, ltb-false}
 use Rattle.model.specs.Machine.{Memory, fetch, alternate}
-use Rattle.memory.specs.Memory.{memoryLength, blank, place, memoryOf, writtenAt, written, within, here, below, held}
-use Rattle.memory.proofs.Written.{Place, is-written, written-here, written-else, written-blank, written-join, written-kept, stored-there, stored-else}
-use Rattle.memory.proofs.Regions.{here-is, here-test, below-none, within-none, below-here, below-else, here-new, within-below, within-else, below-new}
+use Rattle.memory.specs.Memory.{memoryLength, blank, place, memoryOf, written, within, here, below, held}
+use Rattle.memory.proofs.Written.{Place, is-written, written-else, written-join, written-kept, stored-there, stored-else}
+use Rattle.memory.proofs.Regions.{here-written, below-none, within-none, below-here, below-else, here-new, within-below, within-else, below-new}
 
 -- the part whose half it changes with
 other : ℕ → ℕ
@@ -110,32 +108,8 @@ module _ (p k : ℕ) (low : p < 16) (small : k < 256) where
     four-written : all-four ≡ written (here p k) (alternate (memoryOf l)) l
     unfolding all-four
     four-written =
-        is-written (here p k) (alternate (memoryOf l)) l all-four four-size (λ q part j a. go q part j a (here p k q j) refl)
-      where
-        four-size : length all-four ≡ memoryLength
-        four-size = swapped-length locals (place p 2 k) (place p 3 k) ∙ locals-size
-
-        inside : (q part j : ℕ) → Place q part j → (q ≡ p) × (j ≡ k) → here p k q j ≡ true → (b : Bool) → ltb part blank ≡ b
-            → getD all-four (place q part j) 0 ≡ writtenAt (here p k) (alternate (memoryOf l)) l q part j
-        inside q part j a e t true b =
-            let h = ltb-true part blank b in
-            ap (λ (y : ℕ). getD all-four (place y part j) 0) (e .0) ∙ ap (λ (y : ℕ). getD all-four (place p part y) 0) (e .1)
-            ∙ four-at part h ∙ sym (alternated-at l p part k h)
-            ∙ sym (ap (λ (y : ℕ). fetch (alternate (memoryOf l)) y part j) (e .0) ∙ ap (λ (y : ℕ). fetch (alternate (memoryOf l)) p part y) (e .1))
-            ∙ sym (written-here (here p k) (alternate (memoryOf l)) l q part j t h)
-        inside q part j a e t false b =
-            let h = ltb-false part blank b in
-            let i = a .part-low in
-            let is : part ≡ blank = omega arith in
-            four-else a (λ f. omega (arith, f .1)) ∙ ap (λ (y : ℕ). getD l (place q y j) 0) is
-            ∙ sym (written-blank (here p k) (alternate (memoryOf l)) l q j)
-            ∙ ap (λ (y : ℕ). writtenAt (here p k) (alternate (memoryOf l)) l q y j) (sym is)
-
-        go : (q part j : ℕ) → Place q part j → (b : Bool) → here p k q j ≡ b
-            → getD all-four (place q part j) 0 ≡ writtenAt (here p k) (alternate (memoryOf l)) l q part j
-        go q part j a true t = inside q part j a (here-is p k q j t) t (ltb part blank) refl
-        go q part j a false t =
-            four-else a (λ f. false≢true (sym t ∙ here-test p k q j (f .0) (f .2))) ∙ sym (written-else (here p k) (alternate (memoryOf l)) l q part j t)
+        here-written p k (alternate (memoryOf l)) l all-four (swapped-length locals (place p 2 k) (place p 3 k) ∙ locals-size)
+        (λ part h. four-at part h ∙ sym (alternated-at l p part k h)) (λ q part j a d. four-else a d)
 
   -- what the stores at the places of the four parts leave
   pub exchanged : (l : List ℕ) → length l ≡ memoryLength → (a b c d : ℕ) → a ≡ place p 0 k → b ≡ place p 1 k → c ≡ place p 2 k → d ≡ place p 3 k

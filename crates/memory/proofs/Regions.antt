@@ -1,12 +1,16 @@
 -- How the regions of the memory that loops write grow: location by location, processor by processor.
 use Prim.Native.Nat.{ℕ, _+_, _<_}
-use mathlib.Core.Path.{_≡_, refl}
+use mathlib.Core.Path.{_≡_, refl, sym, _∙_, ap}
 use mathlib.Core.Bool.{Bool, true, false, false≢true}
+use mathlib.Core.List.{List}
 use native.Mathlib.Omega.{arith}
 use lib.Dec.{eqb, ltb}
+use lib.ListN.{length, getD}
 use borrow.Author.Tests.{eqb-true, eqb-false, ltb-true, ltb-false, lt-ltb, le-ltb, eq-eqb}
 use Rattle.logic.specs.Test.{_and_}
-use Rattle.memory.specs.Memory.{within, here, below}
+use Rattle.model.specs.Machine.{Memory, fetch}
+use Rattle.memory.specs.Memory.{memoryLength, blank, place, writtenAt, written, within, here, below}
+use Rattle.memory.proofs.Written.{Place, is-written, written-here, written-else, written-blank}
 
 -- below one more
 ltb-more : (x k : ℕ) → (eqb x k ≡ true → ltb x (k + 1) ≡ true) × (eqb x k ≡ false → ltb x (k + 1) ≡ ltb x k)
@@ -30,6 +34,35 @@ here-is p k q x t = go (eqb q p) refl t
 pub here-test : (p k q x : ℕ) → q ≡ p → x ≡ k → here p k q x ≡ true
 unfolding here _and_
 here-test p k q x e f = rw (eq-eqb q p e) (eq-eqb x k f)
+
+-- a list that differs from l at location k of processor p alone, where it holds w
+pub here-written : (p k : ℕ) (w : Memory) (l r : List ℕ) → length r ≡ memoryLength
+    → ((part : ℕ) → part < blank → getD r (place p part k) 0 ≡ fetch w p part k)
+    → ((q part j : ℕ) → Place q part j → ((q ≡ p) × (part < blank) × (j ≡ k) → ⊥) → getD r (place q part j) 0 ≡ getD l (place q part j) 0)
+    → r ≡ written (here p k) w l
+here-written p k w l r size there rest =
+    is-written (here p k) w l r size (λ q part j a. go q part j a (here p k q j) refl)
+  where
+    inside : (q part j : ℕ) → Place q part j → (q ≡ p) × (j ≡ k) → here p k q j ≡ true → (b : Bool) → ltb part blank ≡ b
+        → getD r (place q part j) 0 ≡ writtenAt (here p k) w l q part j
+    inside q part j a e t true b =
+        let h = ltb-true part blank b in
+        ap (λ (y : ℕ). getD r (place y part j) 0) (e .0) ∙ ap (λ (y : ℕ). getD r (place p part y) 0) (e .1)
+        ∙ there part h
+        ∙ sym (ap (λ (y : ℕ). fetch w y part j) (e .0) ∙ ap (λ (y : ℕ). fetch w p part y) (e .1))
+        ∙ sym (written-here (here p k) w l q part j t h)
+    inside q part j a e t false b =
+        let h = ltb-false part blank b in
+        let i = a .part-low in
+        let is : part ≡ blank = omega arith in
+        rest q part j a (λ f. omega (arith, f .1)) ∙ ap (λ (y : ℕ). getD l (place q y j) 0) is
+        ∙ sym (written-blank (here p k) w l q j)
+        ∙ ap (λ (y : ℕ). writtenAt (here p k) w l q y j) (sym is)
+
+    go : (q part j : ℕ) → Place q part j → (b : Bool) → here p k q j ≡ b → getD r (place q part j) 0 ≡ writtenAt (here p k) w l q part j
+    go q part j a true t = inside q part j a (here-is p k q j t) t (ltb part blank) refl
+    go q part j a false t =
+        rest q part j a (λ f. false≢true (sym t ∙ here-test p k q j (f .0) (f .2))) ∙ sym (written-else (here p k) w l q part j t)
 
 pub below-none : (p q x : ℕ) → below p 0 q x ≡ false
 unfolding below _and_

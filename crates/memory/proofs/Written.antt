@@ -42,10 +42,11 @@ module _ {p part k : ℕ} (a : Place p part k) where
       let h′ = b .processor-low in let i′ = b .part-low in let l′ = b .location-low in
       (omega arith, omega arith, omega arith)
 
-byte-place : (a : ℕ) → a < memoryLength → Place (a / 1280) (a % 1280 / 256) (a % 256)
+-- each byte of the memory has a place
+pub byte-place : (a : ℕ) → a < memoryLength → Place (a / 1280) (a % 1280 / 256) (a % 256)
 byte-place a l = record { processor-low = omega arith; part-low = omega arith; location-low = omega arith }
 
-byte-is : (a : ℕ) → a ≡ place (a / 1280) (a % 1280 / 256) (a % 256)
+pub byte-is : (a : ℕ) → a ≡ place (a / 1280) (a % 1280 / 256) (a % 256)
 byte-is a = omega arith
 
 module _ (test : ℕ → ℕ → Bool) (w : Memory) (old : List ℕ) where

@@ -41,6 +41,11 @@ unfolding first
 first-fail pass b e = inr (refl, e)
 first-fail (fail number returned) b e = inl e
 
+pub first-first : (a b c : Check) → first (first a b) c ≡ first a (first b c)
+unfolding first
+first-first pass b c = refl
+first-first (fail number returned) b c = refl
+
 -- a test
 pub unless-true : (t : Bool) (x y : ℕ) → unless t x y ≡ pass → t ≡ true
 unfolding unless

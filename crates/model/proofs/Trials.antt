@@ -9,7 +9,7 @@ use Rattle.gates.specs.Translation.{isTranslation, isConstant, invert, withoutZ
 use Rattle.gates.specs.Value.{U, Z, unknown, known}
 use Rattle.fields.specs.Field.{isDigit, afterSpaces, decimal, noLeadingZero, isNumeral, isField, number}
 use Rattle.fields.specs.Line.{isLineAt}
-use Rattle.fields.specs.Text.{columnOf, fieldText, lineText}
+use Rattle.writing.specs.Text.{columnOf, fieldText, lineText}
 use Rattle.model.specs.Refusal.{pass, fail, first, unless, firstBelow}
 use Rattle.model.specs.Network.{isSignal}
 use Rattle.model.specs.Netlist.{network, tenZeros, netHeader, inputLayout, gateLayout, sourceRight, sourcesRight, netSignal, netSurplus, feeds, chains, onClosedChain, netChains, netCheck}

@@ -3,7 +3,7 @@ use Prim.Native.Nat.{ℕ, zero, suc}
 use mathlib.Core.List.{List, [], _∷_, _++_}
 use lib.Dec.{eqb}
 use Rattle.logic.specs.Choice.{if_then_else_}
-use Rattle.fields.specs.Text.{lineText}
+use Rattle.writing.specs.Text.{lineText}
 use Rattle.model.specs.Refusal.{Check, pass, fail}
 use Rattle.model.specs.Files.{Files}
 use Rattle.model.specs.Value.{VAL, history}

@@ -7,23 +7,17 @@ use Rattle.model.specs.Refusal.{Check, pass, fail, first, unless}
 use Rattle.model.specs.Files.{Files}
 use Rattle.model.specs.Acceptance.{panelLimit, fileCheck}
 use Rattle.model.specs.Session.{Lengths, sameLengths, refused, done}
-use Rattle.memory.specs.Memory.{memoryLength}
-use Rattle.tables.specs.Panel.{panelLength}
-use Rattle.tables.specs.Program.{programLength}
+use Rattle.lengths.specs.Lengths.{fixed, lengthsLent}
 use Rattle.answers.specs.Answers.{answerBits}
-
--- the lengths that docs/PANEL.md gives the working buffers
-abbrev pub rightLengths : Lengths
-rightLengths = record { panel = panelLength; program = programLength; memory = memoryLength }
 
 -- "At the opening 40 comes before all file refusals." The lengths are those of panel, program and memory as lent.
 unfoldable pub openCheck : Files → Lengths → Check
-openCheck files lent = first (unless (sameLengths lent rightLengths) 40 0) (fileCheck panelLimit files)
+openCheck files lent = first (unless (sameLengths lent fixed) 40 0) (fileCheck panelLimit files)
 
 -- the same by the bytes lent
 abbrev pub openingCheck : (net table stim panel program memory : List ℕ) → Check
 openingCheck net table stim panel program memory =
-    openCheck (record { NET = net; MOD = table; STIM = stim }) (record { panel = length panel; program = length program; memory = length memory })
+    openCheck (record { NET = net; MOD = table; STIM = stim }) (lengthsLent panel program memory)
 
 -- "A refused opening leaves the working buffers all zero, as far as they were lent to it": so many zeros
 abbrev pub cleared : ℕ → List ℕ

@@ -2,24 +2,11 @@
 
 ghost use mathlib.Core.Path.{_≡_};
 ghost use lib.ListN.{length};
-ghost use Rattle.model.specs.Session.{sameLengths, refused};
+ghost use Rattle.model.specs.Session.{refused};
 ghost use Rattle.loading.specs.Loaded.{panelOf, programOf, openingBytes};
 ghost use Rattle.answers.specs.Answers.{answerBits};
-ghost use Rattle.opening.specs.Opened.{rightLengths, openingCheck, cleared, leftBy, openBits};
+ghost use Rattle.opening.specs.Opened.{openingCheck, cleared, leftBy, openBits};
 use checks::FileAnswer;
-
-// The three working buffers have the lengths that docs/PANEL.md gives them.
-fn lengths_right(panel: &[u8], program: &[u8], memory: &[u8]) -> bool
-    ensures { λ r. ⌜ r ≡ sameLengths (record { panel = length (now (panel .entry)); program = length (now (program .entry)); memory = length (now (memory .entry)) }) rightLengths ⌝ }
-{
-    if panel.len() != 40970 {
-        return false;
-    }
-    if program.len() != 53248 {
-        return false;
-    }
-    memory.len() == 20480
-}
 
 // The working buffers all zero.
 fn clear_all(panel: &mut [u8], program: &mut [u8], memory: &mut [u8])
@@ -58,7 +45,7 @@ pub extern "C" fn cavundir_open(
     ensures { λ _. ⌜ now (program .exit) ≡ leftBy (openingCheck (now (net .entry)) (now (table .entry)) (now (stim .entry)) (now (panel .entry)) (now (program .entry)) (now (memory .entry))) (programOf (now (table .entry))) (now (program .entry)) ⌝ }
     ensures { λ _. ⌜ now (memory .exit) ≡ leftBy (openingCheck (now (net .entry)) (now (table .entry)) (now (stim .entry)) (now (panel .entry)) (now (program .entry)) (now (memory .entry))) (openingBytes (now (net .entry)) (now (table .entry)) (now (stim .entry))) (now (memory .entry)) ⌝ }
 {
-    if !lengths_right(panel, program, memory) {
+    if !lengths::lengths_right(panel, program, memory) {
         return refuse(40, 0, panel, program, memory);
     }
     let FileAnswer::Refused(number, returned) = checks::check_files(net, table, stim) else {

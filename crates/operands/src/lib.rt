@@ -2,6 +2,7 @@
 
 ghost use mathlib.Core.Path.{_≡_};
 ghost use Rattle.operands.specs.Operand.{operandOf};
+ghost use Rattle.operands.specs.Sender.{senderLaid};
 
 // What a pair of a table line names: a location of one of the four parts, in the order of their numbers, or none.
 pub enum Operand {
@@ -35,4 +36,14 @@ pub fn operand_of(part: u16, location: u8) -> Operand
         3 => Operand::SwitchPresent(location),
         _ => Operand::None,
     }
+}
+
+// "processors below P", or none.
+pub fn sender_right(sender: u16, processors: u16) -> bool
+    ensures { λ r. ⌜ r ≡ senderLaid processors sender ⌝ }
+{
+    if sender < processors {
+        return true;
+    }
+    sender == 99
 }

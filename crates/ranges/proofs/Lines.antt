@@ -14,7 +14,8 @@ use Rattle.tables.specs.Panel.{signalsIn, processorsIn, slotsIn}
 use Rattle.tables.specs.Program.{lineIn, partAt, locationAt}
 use Rattle.tables.specs.Tables.{networkIn, moduleIn}
 use Rattle.ranges.specs.Ranges.{lineRanged}
-use Rattle.ranges.specs.Order.{pairRanged, pairAt, operandsAt, senderRanged, lineAt}
+use Rattle.operands.specs.Sender.{senderLaid}
+use Rattle.ranges.specs.Order.{pairRanged, pairAt, operandsAt, lineAt}
 use Rattle.ranges.proofs.Judged.{and-false}
 
 and-same : (a b c d : Bool) → a ≡ c → b ≡ d → a and b ≡ c and d
@@ -67,5 +68,5 @@ module _ (panel program : List ℕ) (p i : ℕ) where
 
   pub line-order : (place : ℕ) → place ≡ lineIn p i
       → lineRanged (networkIn panel program) (moduleIn panel program) p i ≡ lineAt program place (signalsIn panel) (processorsIn panel) (slotsIn panel)
-  unfolding lineRanged networkIn moduleIn senderLayout lineAt senderRanged
+  unfolding lineRanged networkIn moduleIn senderLayout lineAt senderLaid
   line-order place e = rw e (and-same _ _ _ _ refl (and-same _ _ _ _ operands-order (and-same _ _ _ _ send-order refl)))

@@ -1,7 +1,7 @@
 -- What working buffers in range tell a call, and back: numbers of the panel (`Numbers.antt`), lines of the program (`Laid.antt`), bytes
 -- of the memory.
 use Prim.Native.Nat.{ℕ, _+_, _-_, _*_, _/_, _%_, _<_, _≤_}
-use mathlib.Core.Path.{_≡_, refl, subst}
+use mathlib.Core.Path.{_≡_, refl, sym, subst}
 use mathlib.Core.Bool.{Bool, true, false}
 use mathlib.Core.List.{List}
 use native.Mathlib.Omega.{arith}
@@ -13,7 +13,7 @@ use Rattle.logic.proofs.Tests.{and-true, and-left, and-right, all-at, all-true}
 use Rattle.logic.specs.Choice.{if_then_else_}
 use Rattle.model.specs.Module.{At}
 use Rattle.memory.specs.Memory.{memoryLength, blank, place, within, MemoryBytes}
-use Rattle.memory.proofs.Written.{Place, place-low}
+use Rattle.memory.proofs.Written.{Place, place-low, byte-place, byte-is}
 use Rattle.tables.specs.Panel.{panelLength, signalsIn, processorsIn, slotsIn}
 use Rattle.tables.specs.Program.{programLength, lineIn}
 use Rattle.tables.specs.Tables.{networkIn, moduleIn, Tables}
@@ -69,13 +69,6 @@ module _ (panel program : List ℕ) where
           let q : lineIn (k % 16) (k / 16) + (x - 13 * k) ≡ x = omega arith in
           subst (λ (y : ℕ). getD program y 0 ≡ 0) q (h .rest (k % 16) (k / 16) (x - 13 * k) (omega arith) (omega arith) (omega arith) e))
 
--- each byte of the memory has a place
-byte-place : (a : ℕ) → a < memoryLength → Place (a / 1280) (a % 1280 / 256) (a % 256)
-byte-place a l = record { processor-low = omega arith; part-low = omega arith; location-low = omega arith }
-
-byte-is : (a : ℕ) → place (a / 1280) (a % 1280 / 256) (a % 256) ≡ a
-byte-is a = omega arith
-
 module _ (panel memory : List ℕ) where
   -- the limit of a byte, by its place
   abbrev limitAt : ℕ → ℕ → ℕ → ℕ
@@ -120,8 +113,8 @@ module _ (panel memory : List ℕ) where
         where
           go : (b : Bool) → within (processorsIn panel) (slotsIn panel) (a / 1280) (a % 256) and ltb (a % 1280 / 256) blank ≡ b
               → getD memory a 0 ≤ (if b then 3 else 0)
-          go true e = subst (λ (x : ℕ). getD memory x 0 ≤ 3) (byte-is a) (h .values (byte-place a l))
-          go false e = let z = subst (λ (x : ℕ). getD memory x 0 ≡ 0) (byte-is a) (h .rest (byte-place a l) e) in omega arith
+          go true e = subst (λ (x : ℕ). getD memory x 0 ≤ 3) (sym (byte-is a)) (h .values (byte-place a l))
+          go false e = let z = subst (λ (x : ℕ). getD memory x 0 ≡ 0) (sym (byte-is a)) (h .rest (byte-place a l) e) in omega arith
 
 -- buffers in range
 module _ (panel program memory : List ℕ) where
@@ -147,9 +140,6 @@ module _ (panel program memory : List ℕ) where
     pub memory-in-range : Values panel memory
     unfolding ranged
     memory-in-range = ranged-values panel memory (and-right _ _ (and-right _ _ h))
-
-    pub byte-ranged : (a : ℕ) → a < memoryLength → getD memory a 0 ≤ 3
-    byte-ranged a l = subst (λ (x : ℕ). getD memory x 0 ≤ 3) (byte-is a) (memory-in-range .values (byte-place a l))
 
   pub ranged-tables : length panel ≡ panelLength → length program ≡ programLength → ranged panel program memory ≡ true → Tables panel program
   ranged-tables e f h =

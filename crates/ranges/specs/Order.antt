@@ -5,9 +5,10 @@ use mathlib.Core.Bool.{Bool}
 use mathlib.Core.List.{List}
 use lib.Dec.{eqb, leb, ltb}
 use lib.ListN.{getD}
-use Rattle.logic.specs.Test.{_and_, _or_, all}
+use Rattle.logic.specs.Test.{_and_, all}
 use Rattle.logic.specs.Choice.{if_then_else_}
-use Rattle.model.specs.Module.{localPresent, switchPresent, noPart, noSender}
+use Rattle.model.specs.Module.{localPresent, switchPresent, noPart}
+use Rattle.operands.specs.Sender.{senderLaid}
 use Rattle.memory.specs.Memory.{blank}
 use Rattle.tables.specs.Panel.{word}
 use Rattle.ranges.specs.Ranges.{zeros}
@@ -28,16 +29,13 @@ operandsAt program at slots =
     and pairAt program (at + 6) switchPresent slots
     and pairAt program (at + 8) switchPresent slots
 
-unfoldable pub senderRanged : ℕ → ℕ → Bool
-senderRanged processors sender = ltb sender processors or eqb sender noSender
-
 -- the line at a place, N, P and C being given
 unfoldable pub lineAt : List ℕ → ℕ → ℕ → ℕ → ℕ → Bool
 lineAt program at signals processors slots =
     leb (word program at) signals
     and operandsAt program at slots
     and pairAt program (at + 10) localPresent slots
-    and senderRanged processors (getD program (at + 12) 0)
+    and senderLaid processors (getD program (at + 12) 0)
 
 -- the 16 lines of slot i: those of P processors, and zeros
 unfoldable pub slotAt : List ℕ → ℕ → ℕ → ℕ → ℕ → Bool

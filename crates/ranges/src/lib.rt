@@ -12,7 +12,7 @@ ghost use Rattle.tables.specs.Panel.{panelLength, processorsIn, slotsIn};
 ghost use Rattle.tables.specs.Program.{programLength};
 ghost use Rattle.ranges.specs.Ranges.{zeros, headRanged, codesRanged, signalRanged, panelRanged, programRanged, memoryRanged, ranged};
 ghost use Rattle.ranges.specs.Largest.{larger, largestOf};
-ghost use Rattle.ranges.specs.Order.{pairAt, operandsAt, senderRanged, lineAt, slotAt, slotsAt, valuesIn, partAt, partsAt};
+ghost use Rattle.ranges.specs.Order.{pairAt, operandsAt, lineAt, slotAt, slotsAt, valuesIn, partAt, partsAt};
 
 // The larger of two bytes.
 fn larger_of(a: u8, b: u8) -> u8
@@ -183,16 +183,6 @@ fn operand_faults(program: &[u8], at: usize, slots: u16) -> u8
     first + second + third + fourth
 }
 
-// "processors below P", or none.
-fn sender_right(sender: u8, processors: u8) -> bool
-    ensures { λ r. ⌜ r ≡ senderRanged processors sender ⌝ }
-{
-    if sender < processors {
-        return true;
-    }
-    sender == 99
-}
-
 // The line at a place: "signal (1 to N, or 0: empty slot)", the operands, "a send 0, 1 or 9", and the processor received from.
 fn line_right(program: &[u8], at: usize, signals: u16, processors: u8, slots: u16) -> bool
     requires { ⌜ (at + 13 ≤ length (now program)) × (1 ≤ slots) ⌝ }
@@ -205,7 +195,10 @@ fn line_right(program: &[u8], at: usize, signals: u16, processors: u8, slots: u1
     if faults != 0 {
         return false;
     }
-    sender_right(program[at + 12], processors)
+    operands::sender_right(
+        tables::widened(program[at + 12]),
+        tables::widened(processors),
+    )
 }
 
 // The 16 lines of a slot: those of P processors, and zeros.

@@ -1,11 +1,6 @@
 pub mod Header
 pub mod Judged
 pub mod Lines
-pub mod Counts
-pub mod Slots
 pub mod Told
-pub mod Named
-pub mod Sources
-pub mod Testing
 pub mod Stages
 pub mod Prefix

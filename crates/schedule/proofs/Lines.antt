@@ -21,7 +21,8 @@ use Rattle.fields.specs.Reading.{readField}
 use Rattle.fields.specs.declared.Field.the-variants.{Number, Misformed}
 use Rattle.fields.proofs.Lines.{field-right, field-wrong}
 use Rattle.schedule.specs.Answer.{Sized}
-use Rattle.schedule.specs.Layout.{pairLaid, operandsAt, senderLaid, lineAt}
+use Rattle.operands.specs.Sender.{senderLaid}
+use Rattle.schedule.specs.Layout.{pairLaid, operandsAt, lineAt}
 use Rattle.schedule.proofs.Judged.{and-false}
 
 pub all-4 : (f : ℕ → Bool) → all 4 f ≡ f 0 and f 1 and f 2 and f 3

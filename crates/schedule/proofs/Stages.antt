@@ -1,19 +1,15 @@
 -- The checks in their order: an answer that refuses is the whole check's answer, and one that accepts leaves what the next check wants.
-use Prim.Native.Nat.{ℕ, _≤_}
+use Prim.Native.Nat.{ℕ}
 use mathlib.Core.Path.{_≡_, refl, sym, ap, _∙_}
 use mathlib.Core.List.{List}
 use borrow.Author.Tests.{leb-true}
 use Rattle.logic.proofs.Tests.{and-left, and-right}
-use Rattle.fields.specs.Field.{numberAt}
 use Rattle.model.specs.Refusal.{Check, pass, first}
-use Rattle.model.specs.Netlist.{netSize, network, netCheck}
-use Rattle.model.specs.Schedule.{modProcessors, modSlots, modHeader, modSlot, eachLine}
+use Rattle.model.specs.Schedule.{modProcessors, modSlots, modHeader}
 use Rattle.model.proofs.Refusals.{first-right, first-second, first-stays, unless-true}
-use Rattle.model.proofs.Accepted.{net-size}
-use Rattle.schedule.specs.Answer.{modRefusal, Answers, Sized, Laid, SignalsWithin}
+use Rattle.schedule.specs.Answer.{modRefusal, Answers, Sized}
 use Rattle.schedule.specs.declared.ModAnswer.{ModAnswer}
 use Rattle.schedule.specs.declared.ModAnswer.the-variants.{Accepted, Misformed, Layout, Placement, Send, Reception, WrongOperand}
-use Rattle.schedule.proofs.Slots.{slot-laid}
 
 -- an answer that refuses, whatever sizes it does not give
 pub refused : (r : ModAnswer) (p c x y : ℕ) (check rest : Check) → Answers p c check r → ((a b : ℕ) → r ≡ Accepted a b → ⊥)
@@ -54,21 +50,3 @@ header-sized l p c h ep ec =
       slots-low = rw ec (leb-true 1 (modSlots l) (and-left _ _ slots));
       slots-high = rw ec (leb-true (modSlots l) 256 (and-right _ _ slots));
     }
-
--- what the lines leave
-module _ (net l : List ℕ) (p c : ℕ) (accepted : netCheck 4096 net ≡ pass) (sized : Sized l p c)
-    (lines : eachLine l (modSlot (network net) l) ≡ pass) where
-  pub signals-few : netSize net ≤ 4096
-  signals-few = net-size 4096 net accepted .1
-
-  pub lines-laid : Laid l p c
-  unfolding network
-  lines-laid = record { sized = sized; network = network net; few = signals-few; lines = lines }
-
-  pub lines-within : SignalsWithin l p c (netSize net)
-  unfolding network lines-laid
-  lines-within q i low-q low-i = slot-laid l p c lines-laid q i low-q low-i .signal
-
-pub net-signals : (net : List ℕ) (x : ℕ) → x ≡ numberAt net 6 → network net .size ≡ x
-unfolding network
-net-signals net x e = sym e

@@ -6,21 +6,9 @@ use mathlib.Core.Logic.{inl, inr}
 use native.Mathlib.Omega.{arith}
 use denote.Enum.Declared.{tagOf}
 use types.Run.{OneOf}
-use Rattle.operands.specs.declared.Operand.{Operand}
-use Rattle.operands.specs.declared.Operand.the-variants.{None}
-use Rattle.operands.proofs.Operand.{the-type as operand-type}
 use Rattle.schedule.specs.declared.ModAnswer.{ModAnswer}
 use Rattle.schedule.specs.declared.ModAnswer.the-variants.{Accepted}
 use Rattle.schedule.proofs.ModAnswer.{the-type as answer-type}
-
-pub not-none : (a : Operand) → OneOf (0 ∷ 1 ∷ 2 ∷ 3 ∷ []) (tagOf operand-type a) → a ≡ None → ⊥
-not-none a h e = go (subst (λ (x : Operand). OneOf (0 ∷ 1 ∷ 2 ∷ 3 ∷ []) (tagOf operand-type x)) e h)
-  where
-    go : OneOf (0 ∷ 1 ∷ 2 ∷ 3 ∷ []) 4 → ⊥
-    go (inl e) = omega arith
-    go (inr (inl e)) = omega arith
-    go (inr (inr (inl e))) = omega arith
-    go (inr (inr (inr e))) = omega arith
 
 pub not-accepted : (r : ModAnswer) → OneOf (1 ∷ 2 ∷ 3 ∷ 4 ∷ 5 ∷ 6 ∷ []) (tagOf answer-type r) → (p c : ℕ) → r ≡ Accepted p c → ⊥
 not-accepted r h p c e = go (subst (λ (x : ModAnswer). OneOf (1 ∷ 2 ∷ 3 ∷ 4 ∷ 5 ∷ 6 ∷ []) (tagOf answer-type x)) e h)

@@ -5,7 +5,8 @@ use mathlib.Core.List.{List}
 use lib.Dec.{eqb, leb, ltb}
 use Rattle.logic.specs.Test.{_and_, _or_}
 use Rattle.fields.specs.Field.{numberAt}
-use Rattle.model.specs.Module.{localPresent, switchPresent, noPart, noSender}
+use Rattle.model.specs.Module.{localPresent, switchPresent, noPart}
+use Rattle.operands.specs.Sender.{senderLaid}
 
 -- a pair, its part being most at most
 unfoldable pub pairLaid : ℕ → ℕ → ℕ → ℕ → Bool
@@ -21,9 +22,6 @@ operandsAt table at slots =
     and pairAt table (at + 30) switchPresent slots
     and pairAt table (at + 42) switchPresent slots
     and pairAt table (at + 54) switchPresent slots
-
-unfoldable pub senderLaid : ℕ → ℕ → Bool
-senderLaid processors sender = ltb sender processors or eqb sender noSender
 
 -- the line of a processor and a slot
 unfoldable pub lineAt : List ℕ → ℕ → ℕ → ℕ → ℕ → ℕ → ℕ → Bool

@@ -1,5 +1,3 @@
 pub mod Answer
+pub mod Form
 pub mod Layout
-pub mod Counting
-pub mod Sent
-pub mod Testing

@@ -11,7 +11,8 @@ use Rattle.memory.specs.Memory.{memoryOf}
 use Rattle.tables.specs.Panel.{processorIn, slotIn}
 use Rattle.tables.specs.Tables.{networkIn, moduleIn}
 use Rattle.header.specs.Header.{headIn, withHead}
-use Rattle.header.specs.Commands.{fixed, commanded}
+use Rattle.lengths.specs.Lengths.{fixed}
+use Rattle.header.specs.Commands.{commanded}
 use Rattle.header.proofs.Heads.{own-head}
 use Rattle.session.specs.declared.Ready.{Ready}
 use Rattle.session.specs.declared.Ready.the-variants.{Right, WrongLength, OutOfRange}
@@ -56,7 +57,7 @@ module _ (b : Buffers) (c : Call) (finished-low : getD (b .panel) 5 0 < 256) (wa
       let is = reply-done b c Right e refl in
       let check = callCheck (networkIn (b .panel) (b .program)) (headIn (b .panel) .finished) c in
       let kept = refused-met b c check (ap (λ (x : Reply). isRefused (x .answer)) (sym is) ∙ h) in
-      let same = own-head (b .panel) (right-sizes b Right e refl .panel) finished-low watched-low in
+      let same = own-head (b .panel) (right-sizes b Right e refl .panel-size) finished-low watched-low in
       ap (λ (x : Reply). x .buffers) is
       ∙ ap (λ (x : List ℕ). buffersOf (withHead (commands .head) (b .panel)) (b .program) x) (memory-kept b c Right e refl (kept .1))
       ∙ ap (λ (x : List ℕ). buffersOf x (b .program) (b .memory)) (ap (λ (x : Head). withHead x (b .panel)) (kept .0) ∙ same)

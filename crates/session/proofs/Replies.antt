@@ -15,12 +15,13 @@ use Rattle.ranges.specs.Ranges.{ranged}
 use Rattle.answers.specs.Answers.{callAnswer, answerBits}
 use Rattle.header.specs.declared.Told.{Told}
 use Rattle.header.specs.Header.{headIn, headOf, withHead}
-use Rattle.header.specs.Commands.{fixed, commanded, Tells}
+use Rattle.lengths.specs.Lengths.{fixed}
+use Rattle.header.specs.Commands.{commanded, Tells}
 use Rattle.session.specs.declared.Ready.{Ready}
 use Rattle.session.specs.declared.Ready.the-variants.{Right, WrongLength, OutOfRange}
 use Rattle.session.specs.Reply.{Buffers, buffersOf, lengthsOf, Reply, refusing, outcomeIn, leaving, reply}
 use Rattle.session.specs.Ready.{readyOf, Writes}
-use Rattle.session.proofs.Judged.{Sizes, same-lengths, right-sizes}
+use Rattle.session.proofs.Judged.{Sizes, same-lengths, wrong-length, out-of-range, in-range, right-sizes}
 
 -- a command on the head that the panel holds, answered and encoded
 pub writes : (panel program memory : List ℕ) (call : Call) (h : Head) → h ≡ headIn panel → (told : Told) → Tells (commanded panel program memory h call) told
@@ -104,6 +105,21 @@ module _ (b : Buffers) (c : Call) where
       ap (λ (t : Bool). meet fixed n (lockstep n (moduleIn (b .panel) (b .program)) (processorIn (b .panel)) (slotIn (b .panel))) (headIn (b .panel)) (memoryOf (b .memory)) c
       (first (unless t 40 0) (callCheck n (headIn (b .panel) .finished) c))) (same-lengths b h)
 
+-- what a call replies, by the lengths and the ranges of its buffers
+module _ (b : Buffers) (c : Call) where
+  reply-judged : (k : Ready) → k ≡ readyOf b → reply b c ≡ replied b c k
+  reply-judged k e = reply-replied b c ∙ ap (replied b c) (sym e)
+
+  pub reply-40 : sameLengths (lengthsOf b) fixed ≡ false → reply b c ≡ refusing 40 b
+  reply-40 l = reply-judged WrongLength (wrong-length b l)
+
+  pub reply-44 : sameLengths (lengthsOf b) fixed ≡ true → ranged (b .panel) (b .program) (b .memory) ≡ false → reply b c ≡ refusing 44 b
+  reply-44 l r = reply-judged OutOfRange (out-of-range b l r)
+
+  pub reply-right : sameLengths (lengthsOf b) fixed ≡ true → ranged (b .panel) (b .program) (b .memory) ≡ true
+      → reply b c ≡ record { answer = outcomeIn b c .answer; buffers = leaving b (outcomeIn b c) }
+  reply-right l r = reply-judged Right (in-range b l r)
+
 -- the answer's bits and the buffers left are those of the reply
 abbrev pub Replies : Buffers → Call → ℕ → Buffers → Type 0
 Replies b c bits left = (bits ≡ answerBits (reply b c .answer)) × (reply b c .buffers ≡ left)
@@ -111,7 +127,7 @@ Replies b c bits left = (bits ≡ answerBits (reply b c .answer)) × (reply b c 
 -- the code judged the buffers, and goes by what it found
 module _ (b : Buffers) (c : Call) (r : Ready) (judged : r ≡ readyOf b) where
   pub reply-ready : (k : Ready) → r ≡ k → reply b c ≡ replied b c k
-  reply-ready k e = reply-replied b c ∙ ap (replied b c) (sym judged ∙ e)
+  reply-ready k e = reply-judged b c k (sym e ∙ judged)
 
   refuses : (number bits : ℕ) → reply b c ≡ refusing number b → bits ≡ answerBits (refused number 0) → Replies b c bits b
   refuses number bits e a = (a ∙ ap (λ (x : Reply). answerBits (x .answer)) (sym e), ap (λ (x : Reply). x .buffers) e)
@@ -137,7 +153,7 @@ module _ (b : Buffers) (c : Call) (r : Ready) (judged : r ≡ readyOf b) where
     pub memory-kept : done .state ≡ memoryOf (b .memory) → held (processorsIn (b .panel)) (slotsIn (b .panel)) (done .state) (b .memory) ≡ b .memory
     memory-kept q =
         ap (λ (w : Memory). held (processorsIn (b .panel)) (slotsIn (b .panel)) w (b .memory)) q
-        ∙ sym (written-self (within (processorsIn (b .panel)) (slotsIn (b .panel))) (b .memory) (sizes .memory))
+        ∙ sym (written-self (within (processorsIn (b .panel)) (slotsIn (b .panel))) (b .memory) (sizes .memory-size))
 
     pub replies : (bits : ℕ) (left : List ℕ) → Writes done (b .panel) bits left → done .state ≡ memoryOf (b .memory)
         → Replies b c bits (buffersOf left (b .program) (b .memory))

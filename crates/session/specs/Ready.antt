@@ -8,7 +8,7 @@ use Rattle.model.specs.Session.{sameLengths, Outcome}
 use Rattle.ranges.specs.Ranges.{ranged}
 use Rattle.answers.specs.Answers.{answerBits}
 use Rattle.header.specs.Header.{withHead}
-use Rattle.header.specs.Commands.{fixed}
+use Rattle.lengths.specs.Lengths.{fixed}
 use Rattle.session.specs.declared.Ready.{Ready}
 use Rattle.session.specs.declared.Ready.the-variants.{Right, WrongLength, OutOfRange}
 use Rattle.session.specs.Reply.{Buffers, lengthsOf}

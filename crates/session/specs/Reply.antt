@@ -2,7 +2,6 @@
 use Prim.Native.Nat.{ℕ}
 use mathlib.Core.Bool.{true, false}
 use mathlib.Core.List.{List}
-use lib.ListN.{length}
 use Rattle.model.specs.Machine.{Memory}
 use Rattle.model.specs.Session.{lockstep, Call, Lengths, sameLengths, Answer, refused, Outcome, outcome}
 use Rattle.memory.specs.Memory.{memoryOf, held}
@@ -10,7 +9,7 @@ use Rattle.tables.specs.Panel.{processorsIn, slotsIn, processorIn, slotIn}
 use Rattle.tables.specs.Tables.{networkIn, moduleIn}
 use Rattle.ranges.specs.Ranges.{ranged}
 use Rattle.header.specs.Header.{headIn, withHead}
-use Rattle.header.specs.Commands.{fixed}
+use Rattle.lengths.specs.Lengths.{fixed, lengthsLent}
 
 -- the working buffers
 pub record Buffers : Type 0 where
@@ -23,7 +22,7 @@ buffersOf panel program memory = record { panel = panel; program = program; memo
 
 -- the lengths lent
 abbrev pub lengthsOf : Buffers → Lengths
-lengthsOf b = record { panel = length (b .panel); program = length (b .program); memory = length (b .memory) }
+lengthsOf b = lengthsLent (b .panel) (b .program) (b .memory)
 
 -- the answer, and the buffers as the call leaves them
 pub record Reply : Type 0 where

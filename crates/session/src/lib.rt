@@ -27,13 +27,7 @@ enum Ready {
 fn readiness(panel: &[u8], program: &[u8], memory: &[u8]) -> Ready
     ensures { λ r. ⌜ r ≡ readyOf (buffersOf (now (panel .entry)) (now (program .entry)) (now (memory .entry))) ⌝ }
 {
-    if panel.len() != 40970 {
-        return Ready::WrongLength;
-    }
-    if program.len() != 53248 {
-        return Ready::WrongLength;
-    }
-    if memory.len() != 20480 {
+    if !lengths::lengths_right(panel, program, memory) {
         return Ready::WrongLength;
     }
     if !ranges::in_range(panel, program, memory) {

@@ -16,7 +16,7 @@ use Rattle.model.specs.Module.{Module, Laid, localPresent, switchPresent, noSen
 use Rattle.model.specs.Machine.{Memory, fetch, result, sent, stored, slot}
 use Rattle.memory.specs.Memory.{memoryLength, blank, place, memoryOf, writtenAt, written, within, here, held}
 use Rattle.memory.proofs.Written.{Place, is-written, written-length, written-at, written-here, written-else, written-blank, fetch-bytes, stored-there, stored-else, Agree, written-join, written-kept, written-same}
-use Rattle.memory.proofs.Regions.{here-is, here-test, within-true, within-test}
+use Rattle.memory.proofs.Regions.{here-is, here-test, here-written, within-true, within-test}
 use Rattle.slot.specs.Storing.{evaluated, storing, storedIf, passed, FirstAre}
 
 -- a byte after a store that is made or not
@@ -116,33 +116,9 @@ module _ (m : Module) (i : ℕ) (results sents l : List ℕ) (size : length l �
   twice-at (suc (suc (suc (suc part)))) h = absurd (omega arith)
 
   stored-twice : twice ≡ written (here p i) (storing m i results sents (memoryOf l)) l
-  stored-twice = is-written (here p i) (storing m i results sents (memoryOf l)) l twice twice-size (λ q part j a. go q part j a (here p i q j) refl)
-    where
-      W : Memory
-      W = storing m i results sents (memoryOf l)
-
-      inside : (q part j : ℕ) → Place q part j → (q ≡ p) × (j ≡ i) → here p i q j ≡ true → (b : Bool) → ltb part blank ≡ b
-          → getD twice (place q part j) 0 ≡ writtenAt (here p i) W l q part j
-      inside q part j a e t true b =
-          let h = ltb-true part blank b in
-          ap (λ (y : ℕ). getD twice (place y part j) 0) (e .0) ∙ ap (λ (y : ℕ). getD twice (place p part y) 0) (e .1)
-          ∙ twice-at part h
-          ∙ sym (ap (λ (y : ℕ). fetch W y part j) (e .0) ∙ ap (λ (y : ℕ). fetch W p part y) (e .1))
-          ∙ sym (written-here (here p i) W l q part j t h)
-      inside q part j a e t false b =
-          let h = ltb-false part blank b in
-          let low-part = a .part-low in
-          let is : part ≡ blank = omega arith in
-          twice-else a (λ f. omega (arith, f .1)) (λ f. omega (arith, f .1)) ∙ ap (λ (y : ℕ). getD l (place q y j) 0) is
-          ∙ sym (written-blank (here p i) W l q j)
-          ∙ ap (λ (y : ℕ). writtenAt (here p i) W l q y j) (sym is)
-
-      go : (q part j : ℕ) → Place q part j → (b : Bool) → here p i q j ≡ b
-          → getD twice (place q part j) 0 ≡ writtenAt (here p i) W l q part j
-      go q part j a true t = inside q part j a (here-is p i q j t) t (ltb part blank) refl
-      go q part j a false t =
-          twice-else a (λ f. false≢true (sym t ∙ here-test p i q j (f .0) (f .2))) (λ f. false≢true (sym t ∙ here-test p i q j (f .0) (f .2)))
-          ∙ sym (written-else (here p i) W l q part j t)
+  stored-twice =
+      here-written p i (storing m i results sents (memoryOf l)) l twice twice-size twice-at
+      (λ q part j a d. twice-else a (λ f. d (f .0, omega (arith, f .1), f .2)) (λ f. d (f .0, omega (arith, f .1), f .2)))
 
   pub both-stored : (first r : List ℕ) → first ≡ storedIf (not (eqb (m .signal p i) 0)) l (place p localPresent i) (getD results p 0)
       → r ≡ storedIf (not (eqb (m .sender p i) noSender)) first (place p switchPresent i) (getD sents (m .sender p i) 0)

@@ -30,7 +30,7 @@ fn print_line(numbers: &[u16])
     requires { ⌜ length (now numbers) ≤ 21 ⌝ }
 {
     let mut line = [0u8; 128];
-    let end = fields::write_line(&mut line, 0, numbers);
+    let end = writing::write_line(&mut line, 0, numbers);
     io::write_all(STDOUT_FILENO, &line[..end]);
 }
 

@@ -3,7 +3,7 @@ use Prim.Native.Nat.{_-_}
 use mathlib.Core.Path.{refl}
 use borrow.Author.Needs.{needs}
 use Rattle.tables.specs.Panel.{handIn}
-use Rattle.header.proofs.Filling.{Filled, fill-starts, fill-more, fill-ends}
+use Rattle.logic.proofs.Filling.{Filled, fill-starts, fill-more, fill-ends}
 use native.Mathlib.Omega.{arith}
 use Rattle.header.proofs.take_hand.Statement.{statement}
 use Rattle.header.proofs.take_hand.Tie as tie

@@ -4,7 +4,7 @@ use mathlib.Core.Path.{_≡_, _∙_}
 use mathlib.Core.List.{flatMap}
 use native.Mathlib.Omega.{arith}
 use lib.ListN.{length}
-use Rattle.fields.proofs.Writing.{fields, fields-more}
+use Rattle.writing.proofs.Writing.{fields, fields-more}
 use borrow.Author.Needs.{needs}
 use Rattle.kernels.proofs.kernel_write.Statement.{statement}
 use Rattle.kernels.proofs.kernel_write.Tie as tie

@@ -2,7 +2,7 @@
 use Prim.Native.Nat.{_-_}
 use mathlib.Core.Path.{refl}
 use lib.ListN.{length}
-use Rattle.loading.proofs.Filling.{Filled, fill-starts, fill-more, fill-ends}
+use Rattle.logic.proofs.Filling.{Filled, fill-starts, fill-more, fill-ends}
 use native.Mathlib.Omega.{arith}
 use Rattle.loading.proofs.fill.Statement.{statement}
 use Rattle.loading.proofs.fill.Tie as tie

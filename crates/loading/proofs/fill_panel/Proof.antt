@@ -6,7 +6,7 @@ use borrow.Author.Needs.{needs}
 use Rattle.tables.specs.Panel.{panelLength}
 use Rattle.loading.specs.Loaded.{panelByte}
 use Rattle.loading.specs.Values.{valueIn}
-use Rattle.loading.proofs.Filling.{Filled, fill-starts, fill-more, fill-ends}
+use Rattle.logic.proofs.Filling.{Filled, fill-starts, fill-more, fill-ends}
 use Rattle.loading.proofs.fill_panel.Statement.{statement}
 use Rattle.loading.proofs.fill_panel.Tie as tie
 

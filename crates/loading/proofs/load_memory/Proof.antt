@@ -5,7 +5,7 @@ use native.Mathlib.Omega.{arith}
 use borrow.Author.Needs.{needs}
 use Rattle.memory.specs.Memory.{memoryLength, written}
 use Rattle.loading.specs.Values.{valueIn, openingByte}
-use Rattle.loading.proofs.Filling.{Filled, fill-starts, fill-more, fill-ends}
+use Rattle.logic.proofs.Filling.{Filled, fill-starts, fill-more, fill-ends}
 use Rattle.loading.proofs.load_memory.Statement.{statement}
 use Rattle.loading.proofs.load_memory.Tie as tie
 

@@ -4,7 +4,7 @@ use mathlib.Core.Path.{_∙_, sym}
 use borrow.Author.Needs.{needs}
 use Rattle.tables.specs.Program.{programLength}
 use Rattle.loading.specs.Loaded.{programByte, programOf}
-use Rattle.loading.proofs.Filling.{Filled, fill-starts, fill-more, fill-ends}
+use Rattle.logic.proofs.Filling.{Filled, fill-starts, fill-more, fill-ends}
 use native.Mathlib.Omega.{arith}
 use Rattle.loading.proofs.load_program.Statement.{statement}
 use Rattle.loading.proofs.load_program.Tie as tie

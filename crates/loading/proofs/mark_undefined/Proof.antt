@@ -4,7 +4,7 @@ use mathlib.Core.Path.{refl}
 use lib.ListN.{length}
 use borrow.Author.Needs.{needs}
 use Rattle.loading.specs.Values.{undefinedTo}
-use Rattle.loading.proofs.Filling.{Filled, fill-starts, fill-more, fill-ends}
+use Rattle.logic.proofs.Filling.{Filled, fill-starts, fill-more, fill-ends}
 use native.Mathlib.Omega.{arith}
 use Rattle.loading.proofs.mark_undefined.Statement.{statement}
 use Rattle.loading.proofs.mark_undefined.Tie as tie

@@ -3,7 +3,8 @@ use mathlib.Core.Path.{sym, _∙_}
 use borrow.Author.Tests.{not-true, not-false}
 use Rattle.model.proofs.Accepted.{net-accepted, mod-accepted, stim-accepted}
 use Rattle.loading.specs.Loaded.{panelOf, programOf, openingBytes}
-use Rattle.opening.proofs.Outcome.{wrong-length, right-length, files-accepted, files-refused, same-lengths, refused-bits, refused-left, accepted-bits, accepted-left}
+use Rattle.lengths.proofs.Sizes.{same-sizes}
+use Rattle.opening.proofs.Outcome.{wrong-length, right-length, files-accepted, files-refused, refused-bits, refused-left, accepted-bits, accepted-left}
 use borrow.Author.Needs.{needs}
 use Rattle.opening.proofs.cavundir_open.Statement.{statement}
 use Rattle.opening.proofs.cavundir_open.Tie as tie
@@ -44,8 +45,8 @@ load-requires c κs =
     let told = c .before .before .before in
     let test = told .before .before .before in
     let e = files-accepted _ _ (told .before .before .check-files .ensures) (told .enum-told .given .1) in
-    let l = same-lengths _ _ _ (sym (test .before .lengths-right .ensures) ∙ not-false _ (test .if1 .left)) in
-    (net-accepted 4096 _ e, (mod-accepted 4096 _ e, (stim-accepted 4096 _ e, l)))
+    let l = same-sizes _ _ _ (sym (test .before .lengths-right .ensures) ∙ not-false _ (test .if1 .left)) in
+    (net-accepted 4096 _ e, (mod-accepted 4096 _ e, (stim-accepted 4096 _ e, (l .panel-size, l .program-size, l .memory-size))))
 
 same-length-4 : tie.Need-same-length-4
 same-length-4 c = search needs

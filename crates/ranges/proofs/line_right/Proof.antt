@@ -1,4 +1,5 @@
-use mathlib.Core.Path.{sym, _∙_}
+use mathlib.Core.Path.{sym, _∙_, ap₂}
+use Rattle.operands.specs.Sender.{senderLaid}
 use Rattle.ranges.proofs.Judged.{most-stops, most-goes-on}
 use Rattle.ranges.proofs.Faults.{faults-stop, faults-go-on}
 use Rattle.ranges.specs.Order.{lineAt}
@@ -38,11 +39,17 @@ returns-2 c =
     let if2 = c .if2 in
     sym (most-goes-on _ _ _ _ (word-at .ensures) (if1 .left) ∙ faults-stop _ _ _ _ _ (operand-faults .ensures .0) (pair-faults .ensures .0) (if2 .taken))
 
-add-sender-right : tie.Need-add-sender-right
-add-sender-right c = search needs
+add-widened : tie.Need-add-widened
+add-widened c = search needs
 
-shared-slice-read-sender-right : tie.Need-shared-slice-read-sender-right
-shared-slice-read-sender-right c = search needs
+shared-slice-read-widened : tie.Need-shared-slice-read-widened
+shared-slice-read-widened c = search needs
+
+widened-requires : tie.Need-widened-requires
+widened-requires c κs = search needs
+
+widened-requires-2 : tie.Need-widened-requires-2
+widened-requires-2 c κs = search needs
 
 sender-right-requires : tie.Need-sender-right-requires
 sender-right-requires c κs = search needs
@@ -50,13 +57,15 @@ sender-right-requires c κs = search needs
 returns-3 : tie.Need-returns-3
 unfolding lineAt
 returns-3 c =
-    let word-at = c .before .before .before .before .before .before .word-at in
-    let if1 = c .before .before .before .before .before .if1 in
-    let operand-faults = c .before .before .before .before .operand-faults in
-    let pair-faults = c .before .before .before .pair-faults in
-    let if2 = c .before .before .if2 in
-    let sender-right = c .sender-right in
-    sender-right .ensures ∙ sym (most-goes-on _ _ _ _ (word-at .ensures) (if1 .left) ∙ faults-go-on _ _ _ _ _ (operand-faults .ensures .0) (pair-faults .ensures .0) (if2 .left))
+    let test = c .before .before .before .before in
+    let word-at = test .before .before .before .before .word-at in
+    let if1 = test .before .before .before .if1 in
+    let operand-faults = test .before .before .operand-faults in
+    let pair-faults = test .before .pair-faults in
+    let if2 = test .if2 in
+    c .sender-right .ensures
+    ∙ ap₂ senderLaid (c .before .widened2 .ensures .0) (c .before .before .widened .ensures .0)
+    ∙ sym (most-goes-on _ _ _ _ (word-at .ensures) (if1 .left) ∙ faults-go-on _ _ _ _ _ (operand-faults .ensures .0) (pair-faults .ensures .0) (if2 .left))
 
 pub line-right-spec : {M : Type 1} → statement M
 line-right-spec =
@@ -69,7 +78,9 @@ line-right-spec =
     pair-faults-requires
     add-faults
     returns-2
-    add-sender-right
-    shared-slice-read-sender-right
+    add-widened
+    shared-slice-read-widened
+    widened-requires
+    widened-requires-2
     sender-right-requires
     returns-3)

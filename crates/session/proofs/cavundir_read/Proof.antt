@@ -27,7 +27,7 @@ read-in-requires : tie.Need-read-in-requires
 read-in-requires c κs =
     let judged = c .before .before .readiness .ensures in
     let right = c .enum-told3 .given .1 in
-    ((right-sizes _ _ judged right .panel, right-signals _ _ judged right), (right-processor _ _ judged right, right-memory _ _ judged right))
+    ((right-sizes _ _ judged right .panel-size, right-signals _ _ judged right), (right-processor _ _ judged right, right-memory _ _ judged right))
 
 returns : tie.Need-returns
 returns c = replies-40 _ _ _ (c .before .before .before .readiness .ensures) (c .before .enum-told .given .1) _ (c .bits .ensures)

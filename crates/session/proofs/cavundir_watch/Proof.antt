@@ -27,7 +27,7 @@ watch-in-requires : tie.Need-watch-in-requires
 watch-in-requires c κs =
     let judged = c .before .before .before .readiness .ensures in
     let right = c .before .enum-told3 .given .1 in
-    (right-sizes _ _ judged right .panel, right-signals _ _ judged right)
+    (right-sizes _ _ judged right .panel-size, right-signals _ _ judged right)
 
 same-length : tie.Need-same-length
 same-length c = search needs

@@ -1,28 +1,31 @@
--- `readiness`: the lengths one by one, then the ranges.
+-- `readiness`: the lengths, then the ranges.
 use Rattle.header.proofs.Commands.{fails, passes}
-use Rattle.session.proofs.Judged.{wrong-panel, wrong-program, wrong-memory, out-of-range, in-range}
+use Rattle.lengths.proofs.Sizes.{same-sizes}
+use Rattle.session.proofs.Judged.{wrong-length, out-of-range, in-range}
 use borrow.Author.Needs.{needs}
 use Rattle.session.proofs.readiness.Statement.{statement}
 use Rattle.session.proofs.readiness.Tie as tie
 
+lengths-right-requires : tie.Need-lengths-right-requires
+lengths-right-requires c κs = search needs
+
 returns : tie.Need-returns
-returns c = wrong-panel _ (c .if1 .taken)
-
-returns-2 : tie.Need-returns-2
-returns-2 c = wrong-program _ (c .before .if1 .left) (c .if2 .taken)
-
-returns-3 : tie.Need-returns-3
-returns-3 c = wrong-memory _ (c .before .before .if1 .left) (c .before .if2 .left) (c .if3 .taken)
+returns c = wrong-length _ (fails _ _ (c .before .lengths-right .ensures) (c .if1 .taken))
 
 in-range-requires : tie.Need-in-range-requires
-in-range-requires c κs = search needs
+in-range-requires c κs =
+    let sizes = same-sizes _ _ _ (passes _ _ (c .before .lengths-right .ensures) (c .if1 .left)) in
+    (sizes .panel-size, sizes .program-size, sizes .memory-size)
 
-returns-4 : tie.Need-returns-4
-returns-4 c = out-of-range _ (record { panel = c .before .before .before .before .if1 .left; program = c .before .before .before .if2 .left; memory = c .before .before .if3 .left }) (fails _ _ (c .before .in-range .ensures) (c .if4 .taken))
+returns-2 : tie.Need-returns-2
+returns-2 c =
+    let test = c .before .before in
+    out-of-range _ (passes _ _ (test .before .lengths-right .ensures) (test .if1 .left)) (fails _ _ (c .before .in-range .ensures) (c .if2 .taken))
 
-returns-5 : tie.Need-returns-5
-returns-5 c = in-range _ (record { panel = c .before .before .before .before .if1 .left; program = c .before .before .before .if2 .left; memory = c .before .before .if3 .left }) (passes _ _ (c .before .in-range .ensures) (c .if4 .left))
+returns-3 : tie.Need-returns-3
+returns-3 c =
+    let test = c .before .before in
+    in-range _ (passes _ _ (test .before .lengths-right .ensures) (test .if1 .left)) (passes _ _ (c .before .in-range .ensures) (c .if2 .left))
 
 pub readiness-spec : {M : Type 1} → statement M
-readiness-spec =
-    tie.close (tie.spec returns returns-2 returns-3 in-range-requires returns-4 returns-5)
+readiness-spec = tie.close (tie.spec lengths-right-requires returns in-range-requires returns-2 returns-3)
