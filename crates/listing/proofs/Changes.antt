@@ -12,7 +12,9 @@ use lib.Seq.{sets, length-sets, getD-set-same, getD-set-other}
 use borrow.Author.Tests.{eq-eqb, ne-eqb}
 use Rattle.writing.specs.Text.{fieldText, lineText}
 use Rattle.writing.proofs.Writing.{sets-append, length-fields}
-use Rattle.model.specs.Listing.{joined}
+use Rattle.model.specs.Refusal.{Check, pass, fail}
+use Rattle.model.specs.Listing.{joined, refusalLine}
+use Rattle.listing.specs.Refused.{refusedText}
 use Rattle.listing.specs.Changes.{shownLength, changeLine, changeLines, Shows}
 
 pub length-line : (numbers : List ℕ) → length (lineText numbers) ≡ 6 * length numbers + 1
@@ -94,3 +96,9 @@ module _ {n time : ℕ} {values old : ℕ → ℕ} {lent : List ℕ} {s at : ℕ
         w .bytes ∙ ap (λ (k : ℕ). sets lent 0 (changeLines k time values old)) q,
         record { size = w .size; values-shown = λ k lo hi. w .passed k lo (omega arith) },
       )
+
+-- a refusal has at most one line
+pub refused-short : (c : Check) → length (refusedText c) ≤ 13
+unfolding refusedText refusalLine
+refused-short pass = omega arith
+refused-short (fail number returned) = omega (arith, length-line (number ∷ returned ∷ []))

@@ -43,7 +43,7 @@ use Rattle.listing.specs.Cycling.{Right, Ready, cycled}
 use Rattle.listing.specs.Pieces.{pieceAt}
 use Rattle.listing.specs.Standing.{shownAt, Stands, Gives}
 use Rattle.listing.proofs.Cycling.{cycle-right, cycle-sound}
-use Rattle.listing.proofs.Pieces.{piece-is, piece-last}
+use Rattle.listing.proofs.Pieces.{piece-is, piece-last, piece-short}
 
 -- T is a number of a right field
 end-small : (n : Network) (stim : List ℕ) → stimCheck n stim ≡ pass → endTime stim ≤ 65535
@@ -131,6 +131,7 @@ module _ {files : Files} {k : ℕ} {l : Lister} {stim panel program memory shown
       let is = ap (λ (t : ℕ). lineText (t ∷ 0 ∷ 0 ∷ [])) (s .end) ∙ piece-last files (s .accepted) k last in
       record {
         size = size ∙ ap length is;
+        short = rw (size ∙ ap length is) (piece-short files (s .accepted) _);
         bytes = bytes ∙ ap (sets lent 0) is;
         given = omega (arith, given, s .given);
         next = λ q. absurd (omega arith);
@@ -148,6 +149,7 @@ gives-first {files} {l} {stim} {panel} {program} {memory} {shown} s lent out sho
     let is = piece-given files (s .accepted) panel program (s .holding) memory shown 0 (omega arith) (s .holds) (s .told) in
     record {
       size = size ∙ ap length is;
+      short = rw (size ∙ ap length is) (piece-short files (s .accepted) _);
       bytes = bytes ∙ ap (sets lent 0) is;
       given = ap (λ (x : Lister). x .pieces) after;
       next = λ h. subst (λ (x : Lister). Stands files 1 x stim panel program memory shown′) (sym after)
@@ -257,6 +259,7 @@ module _ {files : Files} {t : ℕ} {l : Lister} {stim panel program memory shown
         let is = piece-given files (s .accepted) fresh program fresh-holding memory′ shown (suc t) more holds-next (s .told) in
         record {
           size = size ∙ ap length is;
+          short = rw (size ∙ ap length is) (piece-short files (s .accepted) _);
           bytes = bytes ∙ ap (sets lent 0) is;
           given = omega (arith, count, s .given);
           next = λ b.

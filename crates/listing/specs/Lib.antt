@@ -4,3 +4,4 @@ pub mod Feeding
 pub mod Cycling
 pub mod Pieces
 pub mod Standing
+pub mod Printing

@@ -17,7 +17,7 @@ use Rattle.header.specs.Header.{headOf}
 use Rattle.kept.proofs.Sound.{Sound}
 use Rattle.listing.specs.declared.Lister.{Lister}
 use Rattle.listing.specs.declared.Piece.{Piece}
-use Rattle.listing.specs.Changes.{shownLength, notShown}
+use Rattle.listing.specs.Changes.{pieceLength, shownLength, notShown}
 use Rattle.listing.specs.Feeding.{Passed, InHand}
 use Rattle.listing.specs.Cycling.{Right}
 use Rattle.listing.specs.Pieces.{pieceAt}
@@ -59,6 +59,7 @@ pub record Standing (l : Lister) (stim panel program memory shown : List ℕ) : 
 -- listing goes on
 pub record Gives (files : Files) (k : ℕ) (lent : List ℕ) (p : Piece) (out stim panel program memory shown : List ℕ) : Type 0 where
   pub size : p .length ≡ length (pieceAt files k)
+  pub short : p .length ≤ pieceLength
   pub bytes : out ≡ sets lent 0 (pieceAt files k)
   pub given : p .lister .pieces ≡ suc k
   pub next : k ≤ endTime (files .STIM) → Stands files (suc k) (p .lister) stim panel program memory shown

@@ -1,0 +1,90 @@
+-- The bytes read so far stand within the buffer.
+use Prim.Native.Nat.{_-_, _≤_}
+use mathlib.Core.Path.{_≡_, refl, _∙_}
+use lib.ListN.{length}
+use native.Mathlib.Omega.{arith}
+use borrow.Author.Needs.{needs}
+use Rattle.cavundir.proofs.Parts.{whole-kept, within}
+use Rattle.cavundir.proofs.read_whole.Statement.{statement}
+use Rattle.cavundir.proofs.read_whole.Tie as tie
+
+abbrev Inv-loop : tie.InvT-loop
+Inv-loop fd bytes₀ done₀ bytes done = (length bytes ≡ length bytes₀) × (done ≤ length bytes)
+
+abbrev μ-loop : tie.MeasureT-loop
+μ-loop fd bytes₀ done₀ bytes done = length bytes₀ - done
+
+loop-holds : tie.Need-loop-holds Inv-loop μ-loop
+loop-holds c = (refl, omega arith)
+
+sub-read-at : tie.Need-sub-read-at Inv-loop μ-loop
+sub-read-at c = search needs
+
+part-read-at-start : tie.Need-part-read-at-start Inv-loop μ-loop
+part-read-at-start c = search needs
+
+part-read-at-end : tie.Need-part-read-at-end Inv-loop μ-loop
+part-read-at-end c = search needs
+
+cast-read-at : tie.Need-cast-read-at Inv-loop μ-loop
+cast-read-at c = record { sfits = omega (arith, c .before .loop-test .taken, c .before .before .loop .inv .0, c .before .before .before .before .good) }
+
+read-at-requires : tie.Need-read-at-requires Inv-loop μ-loop
+read-at-requires c κs = search needs
+
+enum-known-more : tie.Need-enum-known-more Inv-loop μ-loop
+enum-known-more c = search needs
+
+enum-told : tie.Need-enum-told Inv-loop μ-loop
+enum-told c = search needs
+
+same-length : tie.Need-same-length Inv-loop μ-loop
+same-length c = whole-kept (c .before .before .before .before .before .before .before .loop .bytes) (c .before .before .before .before .read-at .last .1 .0) (c .before .before .before .before .before .before .before .loop .done) (c .before .before .before .before .read-at .kept .1 .0) ∙ c .before .before .before .before .before .before .before .loop .inv .0
+
+returns : tie.Need-returns Inv-loop μ-loop
+returns c = search needs
+
+same-length-2 : tie.Need-same-length-2 Inv-loop μ-loop
+same-length-2 c = whole-kept (c .before .before .before .before .before .before .before .before .before .loop .bytes) (c .before .before .before .before .before .before .read-at .last .1 .0) (c .before .before .before .before .before .before .before .before .before .loop .done) (c .before .before .before .before .before .before .read-at .kept .1 .0) ∙ c .before .before .before .before .before .before .before .before .before .loop .inv .0
+
+returns-2 : tie.Need-returns-2 Inv-loop μ-loop
+returns-2 c = omega (arith, whole-kept (c .before .before .before .before .before .before .before .before .before .loop .bytes) (c .before .before .before .before .before .before .read-at .last .1 .0) (c .before .before .before .before .before .before .before .before .before .loop .done) (c .before .before .before .before .before .before .read-at .kept .1 .0), c .before .before .before .before .before .before .before .before .before .loop .inv .1)
+
+add-done : tie.Need-add-done Inv-loop μ-loop
+add-done c = let w = within (c .before .before .before .before .before .before .before .before .before .loop .bytes) (c .before .before .before .before .before .before .read-at .last .1 .0) (c .before .before .before .before .before .before .before .before .before .loop .done) (c .before .before .before .before .before .before .read-at .kept .1 .0) (c .before .before .before .before .before .before .before .before .before .loop .inv .1) (c .before .before .before .before .before .before .read-at .result) (c .before .before .more .given .0 .0) (c .before .before .more .given .1) (c .before .before .before .before .before .before .read-at .ensures) in omega (arith, w, c .before .before .before .before .before .before .before .before .before .loop .inv .0, c .before .before .before .before .before .before .before .before .before .before .before .good)
+
+loop-less : tie.Need-loop-less Inv-loop μ-loop
+loop-less c = let w = within (c .before .before .before .before .before .before .before .before .before .loop .bytes) (c .before .before .before .before .before .before .read-at .last .1 .0) (c .before .before .before .before .before .before .before .before .before .loop .done) (c .before .before .before .before .before .before .read-at .kept .1 .0) (c .before .before .before .before .before .before .before .before .before .loop .inv .1) (c .before .before .before .before .before .before .read-at .result) (c .before .before .more .given .0 .0) (c .before .before .more .given .1) (c .before .before .before .before .before .before .read-at .ensures) in omega (arith, w, c .before .before .before .before .before .before .before .before .before .loop .inv .0, c .if1 .left, c .before .before .before .before .before .before .before .before .loop-test .taken)
+
+loop-again : tie.Need-loop-again Inv-loop μ-loop
+loop-again c = let k = whole-kept (c .before .before .before .before .before .before .before .before .before .loop .bytes) (c .before .before .before .before .before .before .read-at .last .1 .0) (c .before .before .before .before .before .before .before .before .before .loop .done) (c .before .before .before .before .before .before .read-at .kept .1 .0) in let w = within (c .before .before .before .before .before .before .before .before .before .loop .bytes) (c .before .before .before .before .before .before .read-at .last .1 .0) (c .before .before .before .before .before .before .before .before .before .loop .done) (c .before .before .before .before .before .before .read-at .kept .1 .0) (c .before .before .before .before .before .before .before .before .before .loop .inv .1) (c .before .before .before .before .before .before .read-at .result) (c .before .before .more .given .0 .0) (c .before .before .more .given .1) (c .before .before .before .before .before .before .read-at .ensures) in (k ∙ c .before .before .before .before .before .before .before .before .before .loop .inv .0, omega (arith, k, w))
+
+same-length-3 : tie.Need-same-length-3 Inv-loop μ-loop
+same-length-3 c = c .before .loop .inv .0
+
+returns-3 : tie.Need-returns-3 Inv-loop μ-loop
+returns-3 c = c .before .loop .inv .1
+
+pub read-whole-spec : {M : Type 1} → statement M
+read-whole-spec =
+    tie.close
+    (tie.spec
+    Inv-loop
+    μ-loop
+    loop-holds
+    sub-read-at
+    part-read-at-start
+    part-read-at-end
+    cast-read-at
+    read-at-requires
+    enum-known-more
+    enum-told
+    same-length
+    returns
+    same-length-2
+    returns-2
+    add-done
+    loop-less
+    loop-again
+    same-length-3
+    returns-3)

@@ -1,0 +1,170 @@
+// The listing program: it reads NET, MOD and STIM in the working folder and prints the listing, or the first refusal (01, Listing,
+// Refusals). Nothing else is printed.
+
+ghost use mathlib.Core.Path.{_≡_};
+ghost use Prim.Native.Nat.{_≤_};
+ghost use lib.ListN.{length};
+ghost use Rattle.model.specs.Acceptance.{panelLimit, Accepted};
+ghost use Rattle.model.specs.Stimulus.{stimCount};
+ghost use Rattle.cavundir.specs.Got.{Brought};
+use checks::FileAnswer;
+use libc::STDOUT_FILENO;
+use netlist::NetAnswer;
+use schedule::ModAnswer;
+use stimulus::StimAnswer;
+
+// The buffers. A file is read up to one byte more than it may have: such a byte is surplus, whatever follows it.
+fn net_buffer() -> [u8; 299082] {
+    [0; 299082]
+}
+
+fn mod_buffer() -> [u8; 348246] {
+    [0; 348246]
+}
+
+fn stim_buffer() -> [u8; 1245147] {
+    [0; 1245147]
+}
+
+fn panel_buffer() -> [u8; 40970] {
+    [0; 40970]
+}
+
+fn program_buffer() -> [u8; 53248] {
+    [0; 53248]
+}
+
+fn memory_buffer() -> [u8; 20480] {
+    [0; 20480]
+}
+
+fn piece_buffer() -> [u8; 77824] {
+    [0; 77824]
+}
+
+// What one read brought: so many bytes, none at the end of the file; or it failed.
+enum Got {
+    Bytes(usize),
+    Failed,
+}
+
+// One read at a place of the file, which a pipe or a terminal does not have: it fails there, and does not wait.
+fn read_at(fd: i32, part: &mut [u8], at: i64) -> Got
+    ensures { λ r. ⌜ Brought r (now (part .exit)) ⌝ }
+{
+    let got = libc::pread(fd, part, at);
+    if got < 0 {
+        return Got::Failed;
+    }
+    Got::Bytes(io::count(got, part))
+}
+
+// The bytes of an open file, as far as the buffer holds them: how many. A read that fails is not the end of the file: the file then
+// counts as absent.
+fn read_whole(fd: i32, bytes: &mut [u8]) -> usize
+    ensures { λ r. ⌜ r ≤ length (now (bytes .exit)) ⌝ }
+{
+    let mut done: usize = 0;
+    while done < bytes.len() {
+        let Got::Bytes(more) = read_at(fd, &mut bytes[done..], done as i64) else {
+            return 0;
+        };
+        if more == 0 {
+            return done;
+        }
+        done += more;
+    }
+    done
+}
+
+// Opens a file to read it. Opened for update first, a pipe without a writer does not keep the program waiting.
+fn open_file(name: &[u8]) -> i32 {
+    let fd = os::open_update(name);
+    if fd < 0 {
+        return os::open_read(name);
+    }
+    fd
+}
+
+// The bytes of a file, none where it is absent: how many.
+fn read_file(name: &[u8], bytes: &mut [u8]) -> usize
+    ensures { λ r. ⌜ r ≤ length (now (bytes .exit)) ⌝ }
+{
+    let fd = open_file(name);
+    if fd < 0 {
+        return 0;
+    }
+    let count = read_whole(fd, bytes);
+    libc::close(fd);
+    count
+}
+
+// "prints one line of two fields, number and returned value".
+fn print_refusal(answer: FileAnswer) {
+    let mut line = [0u8; 13];
+    let length = listing::write_refusal(answer, &mut line);
+    io::write_all(STDOUT_FILENO, &line[..length]);
+}
+
+// The listing, piece by piece, until one can not be written.
+fn print_listing(net: &[u8], table: &[u8], stim: &[u8], lines: u16)
+    requires { ⌜ Accepted panelLimit (record { NET = now net; MOD = now table; STIM = now stim }) ⌝ }
+    requires { ⌜ lines ≡ stimCount (now stim) ⌝ }
+{
+    let mut panel = panel_buffer();
+    let mut program = program_buffer();
+    let mut memory = memory_buffer();
+    let mut shown = [0u8; 4097];
+    let mut piece = piece_buffer();
+    let mut lister = listing::open(
+        net,
+        table,
+        stim,
+        lines,
+        &mut panel,
+        &mut program,
+        &mut memory,
+        &mut shown,
+    );
+    let count = listing::piece_count(lister.end);
+    while lister.pieces < count {
+        let next = lister.step(
+            stim,
+            &mut panel,
+            &program,
+            &mut memory,
+            &mut shown,
+            &mut piece,
+        );
+        if !io::write_all(STDOUT_FILENO, &piece[..next.length]) {
+            return;
+        }
+        lister = next.lister;
+    }
+}
+
+// "Order: NET, MOD, STIM": each is checked before the next is read.
+fn main() {
+    let mut net = net_buffer();
+    let n = read_file(b"NET", &mut net);
+    let first = netlist::check_net(&net[..n], 4096);
+    let NetAnswer::Accepted(_) = first else {
+        print_refusal(checks::net_answer(first));
+        return;
+    };
+    let mut table = mod_buffer();
+    let m = read_file(b"MOD", &mut table);
+    let second = wiring::check_mod(&net[..n], &table[..m]);
+    let ModAnswer::Accepted(_, _) = second else {
+        print_refusal(checks::mod_answer(second));
+        return;
+    };
+    let mut stim = stim_buffer();
+    let k = read_file(b"STIM", &mut stim);
+    let third = stimulus::check_stim(&net[..n], &stim[..k]);
+    let StimAnswer::Accepted(lines) = third else {
+        print_refusal(checks::stim_answer(third));
+        return;
+    };
+    print_listing(&net[..n], &table[..m], &stim[..k], lines);
+}
