@@ -1,4 +1,4 @@
-/* Stands before the C library by LD_PRELOAD, so that read and write do less than they are asked, or fail, as a disk or a
+/* Stands before the C library by LD_PRELOAD, so that pread and write do less than they are asked, or fail, as a disk or a
  * pipe may. The environment says what:
  *   LESS_READ n            a read of NET, MOD or STIM gives at most n bytes
  *   LESS_FILE name, LESS_READ_FAILS k   the k-th read of this file fails
@@ -31,7 +31,7 @@ static const char *name_of(int descriptor, char *path, size_t size)
     return slash ? slash + 1 : path;
 }
 
-ssize_t read(int descriptor, void *buffer, size_t count)
+ssize_t pread(int descriptor, void *buffer, size_t count, off_t place)
 {
     static long reads;
     char path[4096];
@@ -47,7 +47,7 @@ ssize_t read(int descriptor, void *buffer, size_t count)
             return -1;
         }
     }
-    return syscall(SYS_read, descriptor, buffer, count);
+    return syscall(SYS_pread64, descriptor, buffer, count, place);
 }
 
 ssize_t write(int descriptor, const void *buffer, size_t count)

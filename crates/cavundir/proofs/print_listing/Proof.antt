@@ -46,13 +46,20 @@ slice-aggregate-open-4 : tie.Need-slice-aggregate-open-4 Inv-loop μ-loop
 slice-aggregate-open-4 c = search needs
 
 open-requires : tie.Need-open-requires Inv-loop μ-loop
-open-requires c κs = let s = c .before .before .before .before .before .before .before .before .before .before .before in let e : length (c .before .before .before .before .before .before .before .panel-buffer .result) ≡ panelLength = search needs in let f : length (c .before .before .before .before .before .before .program-buffer .result) ≡ programLength = search needs in let g : length (c .before .before .before .before .before .memory-buffer .result) ≡ memoryLength = search needs in (s .pre .0, (s .pre .1, (e, f, g, refl)))
+open-requires c κs =
+    let s = c .before .before .before .before .before .before .before .before .before .before .before in
+    let e : length (c .before .before .before .before .before .before .before .panel-buffer .result) ≡ panelLength = search needs in
+    let f : length (c .before .before .before .before .before .before .program-buffer .result) ≡ programLength = search needs in
+    let g : length (c .before .before .before .before .before .memory-buffer .result) ≡ memoryLength = search needs in
+    (s .pre .0, (s .pre .1, (e, f, g, refl)))
 
 piece-count-requires : tie.Need-piece-count-requires Inv-loop μ-loop
 piece-count-requires c κs = search needs
 
 loop-holds : tie.Need-loop-holds Inv-loop μ-loop
-loop-holds c = let g : length (c .before .before .before .before .before .before .before .before .before .before .piece-buffer .result) ≡ pieceLength = search needs in prints-starts (c .before .before .before .before .before .«open» .ensures) _ (c .piece-count .ensures) _ g
+loop-holds c =
+    let g : length (c .before .before .before .before .before .before .before .before .before .before .piece-buffer .result) ≡ pieceLength = search needs in
+    prints-starts (c .before .before .before .before .before .«open» .ensures) _ (c .piece-count .ensures) _ g
 
 slice-aggregate-step : tie.Need-slice-aggregate-step Inv-loop μ-loop
 slice-aggregate-step c = sym ((c .before .before .before .loop .inv .stands (c .before .if1 .taken)) .right .sizes .panel-size)
@@ -85,7 +92,10 @@ returns : tie.Need-returns Inv-loop μ-loop
 returns c = search needs
 
 loop-less : tie.Need-loop-less Inv-loop μ-loop
-loop-less c = let e = gives-less (c .before .before .before .before .before .before .before .before .before .before .before .before .before .before .before .before .loop .inv) (c .before .before .before .before .before .before .before .before .before .before .before .before .before .before .if1 .taken) (c .before .before .before .before .before .before .before .before .step .ensures) in let l = c .before .before .before .before .before .before .before .before .before .before .before .before .before .before .if1 .taken in omega (arith, e, l)
+loop-less c =
+    let e = gives-less (c .before .before .before .before .before .before .before .before .before .before .before .before .before .before .before .before .loop .inv) (c .before .before .before .before .before .before .before .before .before .before .before .before .before .before .if1 .taken) (c .before .before .before .before .before .before .before .before .step .ensures) in
+    let l = c .before .before .before .before .before .before .before .before .before .before .before .before .before .before .if1 .taken in
+    omega (arith, e, l)
 
 loop-again : tie.Need-loop-again Inv-loop μ-loop
 loop-again c = prints-more (c .before .before .before .before .before .before .before .before .before .before .before .before .before .before .before .before .loop .inv) (c .before .before .before .before .before .before .before .before .before .before .before .before .before .before .if1 .taken) (c .before .before .before .before .before .before .before .before .step .ensures)

@@ -15,10 +15,14 @@ write-refusal-requires : tie.Need-write-refusal-requires
 write-refusal-requires c κs = search needs
 
 array-share-prefix-line : tie.Need-array-share-prefix-line
-array-share-prefix-line c = let w = c .before .write-refusal in omega (arith, w .kept, w .ensures .0, refused-short (fileRefusal (c .before .before .before .args .answer)))
+array-share-prefix-line c =
+    let w = c .before .write-refusal in
+    omega (arith, w .kept, w .ensures .0, refused-short (fileRefusal (c .before .before .before .args .answer)))
 
 slice-aggregate-write-all : tie.Need-slice-aggregate-write-all
-slice-aggregate-write-all c = let w = c .before .before .write-refusal in sym (length-take-le (w .result) (w .last .1 .0) (omega (arith, w .kept, w .ensures .0, refused-short (fileRefusal (c .before .before .before .before .args .answer)))))
+slice-aggregate-write-all c =
+    let w = c .before .before .write-refusal in
+    sym (length-take-le (w .result) (w .last .1 .0) (omega (arith, w .kept, w .ensures .0, refused-short (fileRefusal (c .before .before .before .before .args .answer)))))
 
 write-all-requires : tie.Need-write-all-requires
 write-all-requires c κs = search needs

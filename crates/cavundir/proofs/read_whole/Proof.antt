@@ -51,13 +51,20 @@ returns-2 : tie.Need-returns-2 Inv-loop μ-loop
 returns-2 c = omega (arith, whole-kept (c .before .before .before .before .before .before .before .before .before .loop .bytes) (c .before .before .before .before .before .before .read-at .last .1 .0) (c .before .before .before .before .before .before .before .before .before .loop .done) (c .before .before .before .before .before .before .read-at .kept .1 .0), c .before .before .before .before .before .before .before .before .before .loop .inv .1)
 
 add-done : tie.Need-add-done Inv-loop μ-loop
-add-done c = let w = within (c .before .before .before .before .before .before .before .before .before .loop .bytes) (c .before .before .before .before .before .before .read-at .last .1 .0) (c .before .before .before .before .before .before .before .before .before .loop .done) (c .before .before .before .before .before .before .read-at .kept .1 .0) (c .before .before .before .before .before .before .before .before .before .loop .inv .1) (c .before .before .before .before .before .before .read-at .result) (c .before .before .more .given .0 .0) (c .before .before .more .given .1) (c .before .before .before .before .before .before .read-at .ensures) in omega (arith, w, c .before .before .before .before .before .before .before .before .before .loop .inv .0, c .before .before .before .before .before .before .before .before .before .before .before .good)
+add-done c =
+    let w = within (c .before .before .before .before .before .before .before .before .before .loop .bytes) (c .before .before .before .before .before .before .read-at .last .1 .0) (c .before .before .before .before .before .before .before .before .before .loop .done) (c .before .before .before .before .before .before .read-at .kept .1 .0) (c .before .before .before .before .before .before .before .before .before .loop .inv .1) (c .before .before .before .before .before .before .read-at .result) (c .before .before .more .given .0 .0) (c .before .before .more .given .1) (c .before .before .before .before .before .before .read-at .ensures) in
+    omega (arith, w, c .before .before .before .before .before .before .before .before .before .loop .inv .0, c .before .before .before .before .before .before .before .before .before .before .before .good)
 
 loop-less : tie.Need-loop-less Inv-loop μ-loop
-loop-less c = let w = within (c .before .before .before .before .before .before .before .before .before .loop .bytes) (c .before .before .before .before .before .before .read-at .last .1 .0) (c .before .before .before .before .before .before .before .before .before .loop .done) (c .before .before .before .before .before .before .read-at .kept .1 .0) (c .before .before .before .before .before .before .before .before .before .loop .inv .1) (c .before .before .before .before .before .before .read-at .result) (c .before .before .more .given .0 .0) (c .before .before .more .given .1) (c .before .before .before .before .before .before .read-at .ensures) in omega (arith, w, c .before .before .before .before .before .before .before .before .before .loop .inv .0, c .if1 .left, c .before .before .before .before .before .before .before .before .loop-test .taken)
+loop-less c =
+    let w = within (c .before .before .before .before .before .before .before .before .before .loop .bytes) (c .before .before .before .before .before .before .read-at .last .1 .0) (c .before .before .before .before .before .before .before .before .before .loop .done) (c .before .before .before .before .before .before .read-at .kept .1 .0) (c .before .before .before .before .before .before .before .before .before .loop .inv .1) (c .before .before .before .before .before .before .read-at .result) (c .before .before .more .given .0 .0) (c .before .before .more .given .1) (c .before .before .before .before .before .before .read-at .ensures) in
+    omega (arith, w, c .before .before .before .before .before .before .before .before .before .loop .inv .0, c .if1 .left, c .before .before .before .before .before .before .before .before .loop-test .taken)
 
 loop-again : tie.Need-loop-again Inv-loop μ-loop
-loop-again c = let k = whole-kept (c .before .before .before .before .before .before .before .before .before .loop .bytes) (c .before .before .before .before .before .before .read-at .last .1 .0) (c .before .before .before .before .before .before .before .before .before .loop .done) (c .before .before .before .before .before .before .read-at .kept .1 .0) in let w = within (c .before .before .before .before .before .before .before .before .before .loop .bytes) (c .before .before .before .before .before .before .read-at .last .1 .0) (c .before .before .before .before .before .before .before .before .before .loop .done) (c .before .before .before .before .before .before .read-at .kept .1 .0) (c .before .before .before .before .before .before .before .before .before .loop .inv .1) (c .before .before .before .before .before .before .read-at .result) (c .before .before .more .given .0 .0) (c .before .before .more .given .1) (c .before .before .before .before .before .before .read-at .ensures) in (k ∙ c .before .before .before .before .before .before .before .before .before .loop .inv .0, omega (arith, k, w))
+loop-again c =
+    let k = whole-kept (c .before .before .before .before .before .before .before .before .before .loop .bytes) (c .before .before .before .before .before .before .read-at .last .1 .0) (c .before .before .before .before .before .before .before .before .before .loop .done) (c .before .before .before .before .before .before .read-at .kept .1 .0) in
+    let w = within (c .before .before .before .before .before .before .before .before .before .loop .bytes) (c .before .before .before .before .before .before .read-at .last .1 .0) (c .before .before .before .before .before .before .before .before .before .loop .done) (c .before .before .before .before .before .before .read-at .kept .1 .0) (c .before .before .before .before .before .before .before .before .before .loop .inv .1) (c .before .before .before .before .before .before .read-at .result) (c .before .before .more .given .0 .0) (c .before .before .more .given .1) (c .before .before .before .before .before .before .read-at .ensures) in
+    (k ∙ c .before .before .before .before .before .before .before .before .before .loop .inv .0, omega (arith, k, w))
 
 same-length-3 : tie.Need-same-length-3 Inv-loop μ-loop
 same-length-3 c = c .before .loop .inv .0

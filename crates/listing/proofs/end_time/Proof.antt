@@ -16,10 +16,15 @@ enum-known-time : tie.Need-enum-known-time
 enum-known-time c = search needs
 
 returns : tie.Need-returns
-returns c = let s = c .before .before .before .before in let g = given-at _ _ (s .pre .0 .passes) _ (omega (arith, s .pre .1)) _ _ _ _ (sym (c .before .before .next .ensures) ∙ c .enum-told .given .1) in absurd (omega (arith, g .before-end, s .pre .1))
+returns c =
+    let s = c .before .before .before .before in
+    let g = given-at _ _ (s .pre .0 .passes) _ (omega (arith, s .pre .1)) _ _ _ _ (sym (c .before .before .next .ensures) ∙ c .enum-told .given .1) in
+    absurd (omega (arith, g .before-end, s .pre .1))
 
 returns-2 : tie.Need-returns-2
-returns-2 c = let s = c .before .before .before .before .before in end-at _ _ (s .pre .0 .passes) _ (omega (arith, s .pre .1)) _ (sym (c .before .before .before .next .ensures) ∙ c .before .time .given .1) .1
+returns-2 c =
+    let s = c .before .before .before .before .before in
+    end-at _ _ (s .pre .0 .passes) _ (omega (arith, s .pre .1)) _ (sym (c .before .before .before .next .ensures) ∙ c .before .time .given .1) .1
 
 pub end-time-spec : {M : Type 1} → statement M
 end-time-spec = tie.close (tie.spec next-requires enum-told enum-known-time returns returns-2)

@@ -28,13 +28,21 @@ enum-told : tie.Need-enum-told Inv-loop μ-loop
 enum-told c = search needs
 
 returns : tie.Need-returns Inv-loop μ-loop
-returns c = let i = c .before .before .before .loop .inv in let e = end-at _ _ (c .before .before .before .before .before .pre .passes) _ (i .few) _ (sym (c .before .before .next .ensures) ∙ c .enum-told .given .1) in record { few = i .few; earlier = i .earlier; later = λ h. absurd (omega (arith, e .0)) }
+returns c =
+    let i = c .before .before .before .loop .inv in
+    let e = end-at _ _ (c .before .before .before .before .before .pre .passes) _ (i .few) _ (sym (c .before .before .next .ensures) ∙ c .enum-told .given .1) in
+    record { few = i .few; earlier = i .earlier; later = λ h. absurd (omega (arith, e .0)) }
 
 returns-2 : tie.Need-returns-2 Inv-loop μ-loop
-returns-2 c = let i = c .before .before .before .before .before .loop .inv in let g = given-at _ _ (c .before .before .before .before .before .before .before .pre .passes) _ (c .before .before .before .before .before .loop .inv .few) _ _ _ _ (sym (c .before .before .before .before .next .ensures) ∙ c .before .before .time .given .1) in record { few = i .few; earlier = i .earlier; later = λ h. omega (arith, g .time-is, c .if1 .taken) }
+returns-2 c =
+    let i = c .before .before .before .before .before .loop .inv in
+    let g = given-at _ _ (c .before .before .before .before .before .before .before .pre .passes) _ (c .before .before .before .before .before .loop .inv .few) _ _ _ _ (sym (c .before .before .before .before .next .ensures) ∙ c .before .before .time .given .1) in
+    record { few = i .few; earlier = i .earlier; later = λ h. omega (arith, g .time-is, c .if1 .taken) }
 
 loop-less : tie.Need-loop-less Inv-loop μ-loop
-loop-less c = let g = given-at _ _ (c .before .before .before .before .before .before .before .pre .passes) _ (c .before .before .before .before .before .loop .inv .few) _ _ _ _ (sym (c .before .before .before .before .next .ensures) ∙ c .before .before .time .given .1) in omega (arith, g .before-end, g .follows)
+loop-less c =
+    let g = given-at _ _ (c .before .before .before .before .before .before .before .pre .passes) _ (c .before .before .before .before .before .loop .inv .few) _ _ _ _ (sym (c .before .before .before .before .next .ensures) ∙ c .before .before .time .given .1) in
+    omega (arith, g .before-end, g .follows)
 
 loop-again : tie.Need-loop-again Inv-loop μ-loop
 loop-again c = skipped-more (c .before .before .before .before .before .loop .inv) (given-at _ _ (c .before .before .before .before .before .before .before .pre .passes) _ (c .before .before .before .before .before .loop .inv .few) _ _ _ _ (sym (c .before .before .before .before .next .ensures) ∙ c .before .before .time .given .1)) (c .if1 .left)

@@ -11,7 +11,10 @@ use Rattle.listing.proofs.open.Statement.{statement}
 use Rattle.listing.proofs.open.Tie as tie
 
 load-requires : tie.Need-load-requires
-load-requires c κs = let s = c .before .before .before .before .before .before .before .before .before .before in let z = s .pre .1 .1 in (net-accepted panelLimit _ (s .pre .0), (mod-accepted panelLimit _ (s .pre .0), (stim-accepted panelLimit _ (s .pre .0), (z .0, z .1, z .2))))
+load-requires c κs =
+    let s = c .before .before .before .before .before .before .before .before .before .before in
+    let z = s .pre .1 .1 in
+    (net-accepted panelLimit _ (s .pre .0), (mod-accepted panelLimit _ (s .pre .0), (stim-accepted panelLimit _ (s .pre .0), (z .0, z .1, z .2))))
 
 fill-requires : tie.Need-fill-requires
 fill-requires c κs = search needs
@@ -38,7 +41,10 @@ same-length-4 : tie.Need-same-length-4
 same-length-4 c = search needs
 
 returns : tie.Need-returns
-returns c = let s = c .before .before .before .before .before .before .before .before .before .before .before .before .before .before .before .before .before .before .before .before .before .before .before .before .before in let load = c .before .before .before .before .before .before .before .before .before .before .before .before .before .before .load .ensures in opened _ (s .pre .0) _ _ _ _ _ (load .0) (load .1 .0) (load .1 .1) (c .before .before .decode .ensures .0) (c .before .before .decode .ensures .1) (c .before .first-later .ensures) (c .end-time .ensures) refl (c .before .before .before .before .before .before .fill .ensures ∙ ap (λ (n : ℕ). listed n (λ a. notShown)) (s .pre .1 .1 .3))
+returns c =
+    let s = c .before .before .before .before .before .before .before .before .before .before .before .before .before .before .before .before .before .before .before .before .before .before .before .before .before in
+    let load = c .before .before .before .before .before .before .before .before .before .before .before .before .before .before .load .ensures in
+    opened _ (s .pre .0) _ _ _ _ _ (load .0) (load .1 .0) (load .1 .1) (c .before .before .decode .ensures .0) (c .before .before .decode .ensures .1) (c .before .first-later .ensures) (c .end-time .ensures) refl (c .before .before .before .before .before .before .fill .ensures ∙ ap (λ (n : ℕ). listed n (λ a. notShown)) (s .pre .1 .1 .3))
 
 pub open-spec : {M : Type 1} → statement M
 open-spec =

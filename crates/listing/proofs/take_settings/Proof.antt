@@ -31,10 +31,15 @@ enum-told : tie.Need-enum-told Inv-loop μ-loop
 enum-told c = search needs
 
 returns : tie.Need-returns Inv-loop μ-loop
-returns c = let i = c .before .before .before .loop .inv in let e = end-at _ _ (c .before .before .before .before .before .before .pre .0 .passes) _ (i .few) _ (sym (c .before .before .next .ensures) ∙ c .enum-told .given .1) in (i, λ h q. omega (arith, e .0))
+returns c =
+    let i = c .before .before .before .loop .inv in
+    let e = end-at _ _ (c .before .before .before .before .before .before .pre .0 .passes) _ (i .few) _ (sym (c .before .before .next .ensures) ∙ c .enum-told .given .1) in
+    (i, λ h q. omega (arith, e .0))
 
 returns-2 : tie.Need-returns-2 Inv-loop μ-loop
-returns-2 c = let g = given-at _ _ (c .before .before .before .before .before .before .before .before .pre .0 .passes) _ (c .before .before .before .before .before .loop .inv .few) _ _ _ _ (sym (c .before .before .before .before .next .ensures) ∙ c .before .before .at .given .1) in (c .before .before .before .before .before .loop .inv, λ h q. c .if1 .taken (g .time-is ∙ q))
+returns-2 c =
+    let g = given-at _ _ (c .before .before .before .before .before .before .before .before .pre .0 .passes) _ (c .before .before .before .before .before .loop .inv .few) _ _ _ _ (sym (c .before .before .before .before .next .ensures) ∙ c .before .before .at .given .1) in
+    (c .before .before .before .before .before .loop .inv, λ h q. c .if1 .taken (g .time-is ∙ q))
 
 cast-set : tie.Need-cast-set Inv-loop μ-loop
 cast-set c = search needs
@@ -46,7 +51,9 @@ set-requires : tie.Need-set-requires Inv-loop μ-loop
 set-requires c κs = c .before .before .before .before .before .before .before .before .pre .1 .1
 
 loop-less : tie.Need-loop-less Inv-loop μ-loop
-loop-less c = let g = given-at _ _ (c .before .before .before .before .before .before .before .before .before .before .pre .0 .passes) _ (c .before .before .before .before .before .before .before .loop .inv .few) _ _ _ _ (sym (c .before .before .before .before .before .before .next .ensures) ∙ c .before .before .before .before .at .given .1) in omega (arith, g .before-end, g .follows)
+loop-less c =
+    let g = given-at _ _ (c .before .before .before .before .before .before .before .before .before .before .pre .0 .passes) _ (c .before .before .before .before .before .before .before .loop .inv .few) _ _ _ _ (sym (c .before .before .before .before .before .before .next .ensures) ∙ c .before .before .before .before .at .given .1) in
+    omega (arith, g .before-end, g .follows)
 
 loop-again : tie.Need-loop-again Inv-loop μ-loop
 loop-again c = fed-more (c .before .before .before .before .before .before .before .loop .inv) (given-at _ _ (c .before .before .before .before .before .before .before .before .before .before .pre .0 .passes) _ (c .before .before .before .before .before .before .before .loop .inv .few) _ _ _ _ (sym (c .before .before .before .before .before .before .next .ensures) ∙ c .before .before .before .before .at .given .1)) (c .before .before .if1 .left) _ (c .before .set .ensures [] [] .head)

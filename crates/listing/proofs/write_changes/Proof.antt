@@ -25,16 +25,27 @@ add-s : tie.Need-add-s Inv-loop μ-loop
 add-s c = search needs
 
 value-of-requires : tie.Need-value-of-requires Inv-loop μ-loop
-value-of-requires c κs = let s = c .before .before .before .before .before .before .before in let size = c .before .before .word-at .ensures in ((s .pre .0 .0, omega (arith, s .pre .0 .1), s .pre .1 .0 _ (omega arith) (omega arith)), s .pre .1 .1 .0)
+value-of-requires c κs =
+    let s = c .before .before .before .before .before .before .before in
+    let size = c .before .before .word-at .ensures in
+    ((s .pre .0 .0, omega (arith, s .pre .0 .1), s .pre .1 .0 _ (omega arith) (omega arith)), s .pre .1 .1 .0)
 
 write-change-requires : tie.Need-write-change-requires Inv-loop μ-loop
-write-change-requires c κs = let s = c .before .before .before .before .before .before .before .before .before .before in let i = c .before .before .before .before .loop .inv in let size = c .before .before .before .before .before .word-at .ensures in (omega (arith, i .size, s .pre .0 .1), omega (arith, i .most, s .pre .0 .1, written-size i, s .pre .1 .1 .1 .1))
+write-change-requires c κs =
+    let s = c .before .before .before .before .before .before .before .before .before .before in
+    let i = c .before .before .before .before .loop .inv in
+    let size = c .before .before .before .before .before .word-at .ensures in
+    (omega (arith, i .size, s .pre .0 .1), omega (arith, i .most, s .pre .0 .1, written-size i, s .pre .1 .1 .1 .1))
 
 loop-less : tie.Need-loop-less Inv-loop μ-loop
 loop-less c = search needs
 
 loop-again : tie.Need-loop-again Inv-loop μ-loop
-loop-again c = let s = c .before .before .before .before .before .before .before .before .before .before .before .before .before .before .before in let size = c .before .before .before .before .before .before .before .before .before .before .word-at .ensures in let w = c .before .before .before .before .write-change .ensures in written-more (c .before .before .before .before .before .before .before .before .before .loop .inv) _ _ _ _ (c .before .before .before .before .before .before .before .before .loop-test .taken) (omega (arith, s .pre .0 .1)) (c .before .before .before .before .before .before .before .value-of .ensures) (w .0) (w .1 .0) (w .1 .1)
+loop-again c =
+    let s = c .before .before .before .before .before .before .before .before .before .before .before .before .before .before .before in
+    let size = c .before .before .before .before .before .before .before .before .before .before .word-at .ensures in
+    let w = c .before .before .before .before .write-change .ensures in
+    written-more (c .before .before .before .before .before .before .before .before .before .loop .inv) _ _ _ _ (c .before .before .before .before .before .before .before .before .loop-test .taken) (omega (arith, s .pre .0 .1)) (c .before .before .before .before .before .before .before .value-of .ensures) (w .0) (w .1 .0) (w .1 .1)
 
 same-length : tie.Need-same-length Inv-loop μ-loop
 same-length c = c .before .loop .inv .size ∙ sym (c .before .before .before .before .before .before .before .pre .1 .1 .1 .0)
@@ -43,7 +54,9 @@ same-length-2 : tie.Need-same-length-2 Inv-loop μ-loop
 same-length-2 c = written-size (c .before .loop .inv)
 
 returns : tie.Need-returns Inv-loop μ-loop
-returns c = let e = written-ends (c .before .loop .inv) _ (c .before .before .word-at .ensures) (omega (arith, c .loop-test .left)) in (e .0, (e .1, e .2))
+returns c =
+    let e = written-ends (c .before .loop .inv) _ (c .before .before .word-at .ensures) (omega (arith, c .loop-test .left)) in
+    (e .0, (e .1, e .2))
 
 pub write-changes-spec : {M : Type 1} → statement M
 write-changes-spec =

@@ -17,7 +17,9 @@ write-line-requires : tie.Need-write-line-requires
 write-line-requires c κs = search needs
 
 add-t28 : tie.Need-add-t28
-add-t28 c = let s = c .before .before .before .before .before .before .before .before .before .before .before .before .before .before .before in omega (arith, stands-end (s .pre .0 .stands), stands-pieces (s .pre .0 .stands))
+add-t28 c =
+    let s = c .before .before .before .before .before .before .before .before .before .before .before .before .before .before .before in
+    omega (arith, stands-end (s .pre .0 .stands), stands-pieces (s .pre .0 .stands))
 
 same-length : tie.Need-same-length
 same-length c = search needs
@@ -29,7 +31,10 @@ cast-time : tie.Need-cast-time
 cast-time c = search needs
 
 write-changes-requires : tie.Need-write-changes-requires
-write-changes-requires c κs = let s = c .before .before .before .before .before .before .before .before .before .before .before .before .before .before .before in let st = s .pre .0 .stands in ((st .right .sizes .panel-size, right-signals (st .right)), (right-processor (st .right), (right-memory (st .right), (st .shown-size, s .pre .1))))
+write-changes-requires c κs =
+    let s = c .before .before .before .before .before .before .before .before .before .before .before .before .before .before .before in
+    let st = s .pre .0 .stands in
+    ((st .right .sizes .panel-size, right-signals (st .right)), (right-processor (st .right), (right-memory (st .right), (st .shown-size, s .pre .1))))
 
 same-length-2 : tie.Need-same-length-2
 same-length-2 c = search needs
@@ -47,16 +52,30 @@ returns-2 : tie.Need-returns-2
 returns-2 c = λ files k s. by-count s (gives-zeroth _ (c .before .before .before .before .before .before .before .before .before .if2 .taken) (at-count s) _ _ _ _ (c .before .before .before .before .write-changes .ensures .0) (c .before .before .before .before .write-changes .ensures .1 .0) (c .before .before .before .before .write-changes .ensures .1 .1) refl)
 
 take-settings-requires : tie.Need-take-settings-requires
-take-settings-requires c κs = let s = c .before .before .before .before .before .before .before .before .before .before .before .before in let st = s .pre .0 .stands in (stands-stimulus st, (stands-few st, (st .right .sizes .panel-size, right-signals (st .right))))
+take-settings-requires c κs =
+    let s = c .before .before .before .before .before .before .before .before .before .before .before .before in
+    let st = s .pre .0 .stands in
+    (stands-stimulus st, (stands-few st, (st .right .sizes .panel-size, right-signals (st .right))))
 
 run-one-requires : tie.Need-run-one-requires
-run-one-requires c κs = let st = c .before .before .before .before .before .before .before .before .before .before .before .before .before .before .before .before .before .pre .0 .stands in let fed = c .before .before .before .before .take-settings .ensures in later-ready _ (at-count st) (c .before .before .before .before .before .before .if2 .left) (c .before .before .before .before .before .before .before .if1 .left) (fed .0) (fed .1)
+run-one-requires c κs =
+    let st = c .before .before .before .before .before .before .before .before .before .before .before .before .before .before .before .before .before .pre .0 .stands in
+    let fed = c .before .before .before .before .take-settings .ensures in
+    later-ready _ (at-count st) (c .before .before .before .before .before .before .if2 .left) (c .before .before .before .before .before .before .before .if1 .left) (fed .0) (fed .1)
 
 write-changes-requires-2 : tie.Need-write-changes-requires-2
-write-changes-requires-2 c κs = let s = c .before .before .before .before .before .before .before .before .before .before .before .before .before .before .before .before .before .before .before .before .before .before .before .before .before .before in let st = s .pre .0 .stands in let fed = c .before .before .before .before .before .before .before .before .before .before .before .before .before .take-settings .ensures in let ran = c .before .before .before .before .before .before .before .before .run-one .ensures in let right = later-right _ (at-count st) (c .before .before .before .before .before .before .before .before .before .before .before .before .before .before .before .if2 .left) (c .before .before .before .before .before .before .before .before .before .before .before .before .before .before .before .before .if1 .left) (fed .0) (fed .1) _ (ran .1 .1) in rw (ran .1 .0) ((right .sizes .panel-size, right-signals right), (right-processor right, (right-memory right, (st .shown-size, s .pre .1))))
+write-changes-requires-2 c κs =
+    let s = c .before .before .before .before .before .before .before .before .before .before .before .before .before .before .before .before .before .before .before .before .before .before .before .before .before .before in
+    let st = s .pre .0 .stands in
+    let fed = c .before .before .before .before .before .before .before .before .before .before .before .before .before .take-settings .ensures in
+    let ran = c .before .before .before .before .before .before .before .before .run-one .ensures in
+    let right = later-right _ (at-count st) (c .before .before .before .before .before .before .before .before .before .before .before .before .before .before .before .if2 .left) (c .before .before .before .before .before .before .before .before .before .before .before .before .before .before .before .before .if1 .left) (fed .0) (fed .1) _ (ran .1 .1) in
+    rw (ran .1 .0) ((right .sizes .panel-size, right-signals right), (right-processor right, (right-memory right, (st .shown-size, s .pre .1))))
 
 add-t21 : tie.Need-add-t21
-add-t21 c = let s = c .before .before .before .before .before .before .before .before .before .before .before .before .before .before .before .before .before .before .before .before .before .before .before .before .before .before .before .before .before .before .before in omega (arith, stands-end (s .pre .0 .stands), stands-pieces (s .pre .0 .stands))
+add-t21 c =
+    let s = c .before .before .before .before .before .before .before .before .before .before .before .before .before .before .before .before .before .before .before .before .before .before .before .before .before .before .before .before .before .before .before in
+    omega (arith, stands-end (s .pre .0 .stands), stands-pieces (s .pre .0 .stands))
 
 same-length-6 : tie.Need-same-length-6
 same-length-6 c = search needs
