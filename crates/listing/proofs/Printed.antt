@@ -30,6 +30,7 @@ use Rattle.listing.specs.declared.Lister.{Lister}
 use Rattle.listing.specs.Refused.{refusedText}
 use Rattle.listing.specs.Pieces.{pieceCount, pieceAt}
 use Rattle.listing.specs.Standing.{Stands, Gives}
+use Rattle.listing.proofs.Standing.{end-small}
 use Rattle.listing.specs.Printing.{firstBytes, inOrder, Steps, over, more, Prints, net-refused, mod-refused, stim-refused, listed}
 
 -- the pieces of a listing from one on, so many
@@ -202,6 +203,10 @@ module _ (files : Files) where
     where
       lists : listing read ≡ printed panelLimit files
       lists = subst (λ (x : Files). listing x ≡ printed panelLimit files) (sym (read-whole accepted)) (accepted-prints files (subst (Accepted panelLimit) (read-whole accepted) accepted))
+
+-- The pieces are T + 2, at most 65,537, and none has more than 77,824 bytes (`Pieces.piece-short`)
+pub pieces-few : (files : Files) → Accepted panelLimit files → pieceCount files ≤ 65537
+pieces-few files accepted = omega (arith, end-small (networkOf files) (files .STIM) (stim-accepted panelLimit files accepted))
 
 -- Demand 2 of the program: of any text that it prints for the files
 pub program-demand-2 : (prints : Files → List ℕ) → ((files : Files) → Prints (firstBytes files) (prints files)) → Demand2 panelLimit prints

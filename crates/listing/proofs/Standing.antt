@@ -46,7 +46,7 @@ use Rattle.listing.proofs.Cycling.{cycle-right, cycle-sound}
 use Rattle.listing.proofs.Pieces.{piece-is, piece-last, piece-short}
 
 -- T is a number of a right field
-end-small : (n : Network) (stim : List ℕ) → stimCheck n stim ≡ pass → endTime stim ≤ 65535
+pub end-small : (n : Network) (stim : List ℕ) → stimCheck n stim ≡ pass → endTime stim ≤ 65535
 unfolding endTime
 end-small n stim passes =
     number-small stim (stimLine (stimCount stim)) (time-field stim (stimCount stim) (line-right n stim passes (stimCount stim) (omega arith)))
