@@ -9,12 +9,13 @@ ghost use Rattle.memory.specs.Memory.{held, MemoryBytes};
 ghost use Rattle.tables.specs.Panel.{panelLength, signalsIn, processorIn, processorsIn, slotsIn};
 ghost use Rattle.tables.specs.Tables.{Tables};
 ghost use Rattle.machine.specs.Running.{Watching};
-ghost use Rattle.answers.specs.Answers.{answerBits};
-ghost use Rattle.header.specs.Header.{headIn};
+ghost use Rattle.answers.specs.Answers.{callAnswer, answerBits};
+ghost use Rattle.header.specs.Header.{headIn, headOf, withHead};
 ghost use Rattle.header.specs.Commands.{commanded};
 ghost use Rattle.session.specs.Reply.{buffersOf, reply};
 ghost use Rattle.session.specs.Ready.{readyOf, Writes};
 use answers::CallAnswer;
+use header::Told;
 
 // Whether a call may go on with the buffers that it was lent.
 enum Ready {
@@ -36,16 +37,24 @@ fn readiness(panel: &[u8], program: &[u8], memory: &[u8]) -> Ready
     Ready::Right
 }
 
+// The session that a command hands back, written into the panel, and its answer for C.
+fn tell(told: Told, panel: &mut [u8]) -> u64
+    requires { ⌜ length (now panel) ≡ panelLength ⌝ }
+    ensures { λ r. ⌜ r ≡ answerBits (callAnswer (told .answer)) ⌝ }
+    ensures { λ _. ⌜ now (panel .exit) ≡ withHead (headOf (told .session)) (now (panel .entry)) ⌝ }
+{
+    let session = told.session;
+    let answer = told.answer;
+    session.encode(panel);
+    answer.bits()
+}
+
 // A setting, on buffers in range.
 fn set_in(panel: &mut [u8], signal: u32, value: u32) -> u64
     requires { ⌜ (length (now panel) ≡ panelLength) × (signalsIn (now panel) ≤ 4096) ⌝ }
     ensures { λ r. ⌜ ((program memory : List ℕ) → Writes (commanded (now (panel .entry)) program memory (headIn (now (panel .entry))) (setting signal value)) (now (panel .entry)) r (now (panel .exit))) ⌝ }
 {
-    let told = header::decode(panel).set(panel, signal, value);
-    let session = told.session;
-    let answer = told.answer;
-    session.encode(panel);
-    answer.bits()
+    tell(header::decode(panel).set(panel, signal, value), panel)
 }
 
 // A watch, on buffers in range.
@@ -53,11 +62,7 @@ fn watch_in(panel: &mut [u8], signal: u32, mask: u32) -> u64
     requires { ⌜ (length (now panel) ≡ panelLength) × (signalsIn (now panel) ≤ 4096) ⌝ }
     ensures { λ r. ⌜ ((program memory : List ℕ) → Writes (commanded (now (panel .entry)) program memory (headIn (now (panel .entry))) (watching signal mask)) (now (panel .entry)) r (now (panel .exit))) ⌝ }
 {
-    let told = header::decode(panel).watch(panel, signal, mask);
-    let session = told.session;
-    let answer = told.answer;
-    session.encode(panel);
-    answer.bits()
+    tell(header::decode(panel).watch(panel, signal, mask), panel)
 }
 
 // A read, on buffers in range. The session that it hands back is the old one, and nothing is written.
@@ -80,11 +85,10 @@ fn run_in(panel: &mut [u8], program: &[u8], memory: &mut [u8], cycles: u32) -> u
     ensures { λ r. ⌜ Writes (commanded (now (panel .entry)) (now (program .entry)) (now (memory .entry)) (headIn (now (panel .entry))) (running cycles)) (now (panel .entry)) r (now (panel .exit)) ⌝ }
     ensures { λ _. ⌜ now (memory .exit) ≡ held (processorsIn (now (panel .entry))) (slotsIn (now (panel .entry))) (commanded (now (panel .entry)) (now (program .entry)) (now (memory .entry)) (headIn (now (panel .entry))) (running cycles) .state) (now (memory .entry)) ⌝ }
 {
-    let told = header::decode(panel).run(panel, program, memory, cycles);
-    let session = told.session;
-    let answer = told.answer;
-    session.encode(panel);
-    answer.bits()
+    tell(
+        header::decode(panel).run(panel, program, memory, cycles),
+        panel,
+    )
 }
 
 // Set an input for the next cycle. Refused by 40, 44, 41, 42, in this order.

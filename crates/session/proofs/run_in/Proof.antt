@@ -1,3 +1,4 @@
+-- `run_in`: decoded, run and encoded, the panel has the head of the outcome, and the memory its state.
 use mathlib.Core.Path.{_∙_, ap}
 use Rattle.model.specs.Session.{Head, run}
 use Rattle.memory.specs.Memory.{held}
@@ -14,11 +15,8 @@ decode-requires c κs = search needs
 run-requires : tie.Need-run-requires
 run-requires c κs = search needs
 
-encode-requires : tie.Need-encode-requires
-encode-requires c κs = search needs
-
-bits-requires : tie.Need-bits-requires
-bits-requires c κs = search needs
+tell-requires : tie.Need-tell-requires
+tell-requires c κs = search needs
 
 same-length : tie.Need-same-length
 same-length c = search needs
@@ -28,23 +26,14 @@ same-length-2 c = search needs
 
 returns : tie.Need-returns
 returns c =
-    let s = c .before .before .before .before .before .before .before .before .before .before .before .before .before .before .before .before in
+    let s = c .before .before .before .before .before .before .before .before .before .before .before .before .before .before in
     let panel = s .args .panel .now in
     let program = s .args .program .now in
     let memory = s .args .memory .now in
-    let e = c .before .before .before .before .before .before .before .before .before .before .before .decode .ensures .0 in (
-      writes panel program memory _ _ e _ (c .before .before .before .before .before .before .before .before .run .ensures .0) _ _ (c .bits .ensures) (c .before .before .before .encode .ensures),
-      c .before .before .before .before .before .before .before .before .run .ensures .1 ∙ ap (λ (h : Head). held (processorsIn panel) (slotsIn panel) (commanded panel program memory h (run (s .args .cycles)) .state) memory) e,
-    )
+    let e = c .before .before .before .before .before .before .before .before .before .decode .ensures .0 in
+    (writes panel program memory _ _ e _ (c .before .before .before .before .before .before .run .ensures .0) _ _ (c .before .before .tell .ensures .0) (c .before .before .tell .ensures .1), c .before .before .before .before .before .before .run .ensures .1 ∙ ap (λ (h : Head). held (processorsIn panel) (slotsIn panel) (commanded panel program memory h (run (s .args .cycles)) .state) memory) e)
 
 pub run-in-spec : {M : Type 1} → statement M
 run-in-spec =
     tie.close
-    (tie.spec
-    decode-requires
-    run-requires
-    encode-requires
-    bits-requires
-    same-length
-    same-length-2
-    returns)
+    (tie.spec decode-requires run-requires tell-requires same-length same-length-2 returns)

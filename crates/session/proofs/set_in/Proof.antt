@@ -10,26 +10,16 @@ decode-requires c κs = search needs
 set-requires : tie.Need-set-requires
 set-requires c κs = search needs
 
-encode-requires : tie.Need-encode-requires
-encode-requires c κs = search needs
-
-bits-requires : tie.Need-bits-requires
-bits-requires c κs = search needs
+tell-requires : tie.Need-tell-requires
+tell-requires c κs = search needs
 
 same-length : tie.Need-same-length
 same-length c = search needs
 
 returns : tie.Need-returns
 returns c =
-    let bits = c .bits in
-    let encode = c .before .before .before .encode in
-    let set = c .before .before .before .before .before .before .set in
-    let decode = c .before .before .before .before .before .before .before .before .decode in
-    let s = c .before .before .before .before .before .before .before .before .before .before .before in
-    λ program memory.
-    writes (s .args .panel .now) program memory _ _ (decode .ensures .0) _ (set .ensures program memory) _ _ (bits .ensures) (encode .ensures)
+    let s = c .before .before .before .before .before .before .before .before .before in
+    λ program memory. writes (s .args .panel .now) program memory _ _ (c .before .before .before .before .before .before .decode .ensures .0) _ (c .before .before .before .before .set .ensures program memory) _ _ (c .before .before .tell .ensures .0) (c .before .before .tell .ensures .1)
 
 pub set-in-spec : {M : Type 1} → statement M
-set-in-spec =
-    tie.close
-    (tie.spec decode-requires set-requires encode-requires bits-requires same-length returns)
+set-in-spec = tie.close (tie.spec decode-requires set-requires tell-requires same-length returns)

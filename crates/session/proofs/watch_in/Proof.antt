@@ -1,4 +1,4 @@
--- `watch_in`: decoded, watched and encoded, the panel has the head of the outcome.
+-- `watch_in`: decoded, watch and encoded, the panel has the head of the outcome.
 use Rattle.session.proofs.Replies.{writes}
 use borrow.Author.Needs.{needs}
 use Rattle.session.proofs.watch_in.Statement.{statement}
@@ -10,26 +10,17 @@ decode-requires c κs = search needs
 watch-requires : tie.Need-watch-requires
 watch-requires c κs = search needs
 
-encode-requires : tie.Need-encode-requires
-encode-requires c κs = search needs
-
-bits-requires : tie.Need-bits-requires
-bits-requires c κs = search needs
+tell-requires : tie.Need-tell-requires
+tell-requires c κs = search needs
 
 same-length : tie.Need-same-length
 same-length c = search needs
 
 returns : tie.Need-returns
 returns c =
-    let bits = c .bits in
-    let encode = c .before .before .before .encode in
-    let watch = c .before .before .before .before .before .before .watch in
-    let decode = c .before .before .before .before .before .before .before .before .decode in
-    let s = c .before .before .before .before .before .before .before .before .before .before .before in
-    λ program memory.
-    writes (s .args .panel .now) program memory _ _ (decode .ensures .0) _ (watch .ensures program memory) _ _ (bits .ensures) (encode .ensures)
+    let s = c .before .before .before .before .before .before .before .before .before in
+    λ program memory. writes (s .args .panel .now) program memory _ _ (c .before .before .before .before .before .before .decode .ensures .0) _ (c .before .before .before .before .watch .ensures program memory) _ _ (c .before .before .tell .ensures .0) (c .before .before .tell .ensures .1)
 
 pub watch-in-spec : {M : Type 1} → statement M
 watch-in-spec =
-    tie.close
-    (tie.spec decode-requires watch-requires encode-requires bits-requires same-length returns)
+    tie.close (tie.spec decode-requires watch-requires tell-requires same-length returns)
