@@ -11,7 +11,6 @@ ghost use Rattle.model.specs.Module.{localPresent, switchPresent, noSender};
 ghost use Rattle.model.specs.Machine.{sent as sentBy, slot as slotDone};
 ghost use Rattle.memory.specs.Memory.{memoryLength, memoryOf, place, held, written, here, MemoryBytes};
 ghost use Rattle.tables.specs.Panel.{panelLength, processorsIn, slotsIn, handIn};
-ghost use Rattle.tables.specs.Program.{programLength, signalAt, senderAt};
 ghost use Rattle.tables.specs.Tables.{networkIn, moduleIn, Tables};
 ghost use Rattle.slot.specs.Storing.{gateOn, evaluatedOn, evaluated, FirstAre, storing, storedIf, passed};
 
@@ -51,98 +50,56 @@ fn evaluate(panel: &[u8], memory: &[u8], processor: usize, line: Instruction) ->
     gate_on(panel, memory, processor, line)
 }
 
-// What a processor fetches for the local memory in a slot.
-fn result_at(panel: &[u8], program: &[u8], memory: &[u8], processor: usize, slot: Slot) -> u8
-    requires { ⌜ Tables (now panel) (now program) ⌝ }
-    requires { ⌜ MemoryBytes (now memory) ⌝ }
-    requires { ⌜ (processor < processorsIn (now panel)) × (slot .0 < slotsIn (now panel)) ⌝ }
-    ensures { λ r. ⌜ r ≡ evaluated (networkIn (now (panel .entry)) (now (program .entry))) (moduleIn (now (panel .entry)) (now (program .entry))) (handIn (now (panel .entry))) (memoryOf (now (memory .entry))) processor (slot .0) ⌝ }
-{
-    let line = tables::instruction_in(program, processor, slot);
-    evaluate(panel, memory, processor, line)
-}
-
-// What a processor sends in a slot.
-fn sent_at(panel: &[u8], program: &[u8], memory: &[u8], processor: usize, slot: Slot) -> u8
-    requires { ⌜ Tables (now panel) (now program) ⌝ }
-    requires { ⌜ MemoryBytes (now memory) ⌝ }
-    requires { ⌜ (processor < processorsIn (now panel)) × (slot .0 < slotsIn (now panel)) ⌝ }
-    ensures { λ r. ⌜ r ≡ sentBy (moduleIn (now (panel .entry)) (now (program .entry))) (memoryOf (now (memory .entry))) processor (slot .0) ⌝ }
-{
-    let line = tables::instruction_in(program, processor, slot);
-    let send = line.send;
-    memory::fetch(memory, processor, send)
-}
-
-// "every processor fetches first": what each stores locally.
-fn fetch_results(
+// "every processor fetches first": what each stores locally and what it sends, from its line decoded once.
+fn fetch_all(
     panel: &[u8],
     program: &[u8],
     memory: &[u8],
     processors: usize,
     slot: Slot,
     results: &mut [u8],
-)
-    requires { ⌜ Tables (now panel) (now program) ⌝ }
-    requires { ⌜ MemoryBytes (now memory) ⌝ }
-    requires { ⌜ (processors ≡ processorsIn (now panel)) × (slot .0 < slotsIn (now panel)) × (length (now results) ≡ 16) ⌝ }
-    ensures { λ r. ⌜ FirstAre processors (λ p. evaluated (networkIn (now (panel .entry)) (now (program .entry))) (moduleIn (now (panel .entry)) (now (program .entry))) (handIn (now (panel .entry))) (memoryOf (now (memory .entry))) p (slot .0)) (now (results .exit)) ⌝ }
-{
-    let mut p: usize = 0;
-    while p < processors {
-        results[p] = result_at(panel, program, memory, p, slot);
-        p += 1;
-    }
-}
-
-// And what each sends.
-fn fetch_sent(
-    panel: &[u8],
-    program: &[u8],
-    memory: &[u8],
-    processors: usize,
-    slot: Slot,
     sent: &mut [u8],
 )
     requires { ⌜ Tables (now panel) (now program) ⌝ }
     requires { ⌜ MemoryBytes (now memory) ⌝ }
-    requires { ⌜ (processors ≡ processorsIn (now panel)) × (slot .0 < slotsIn (now panel)) × (length (now sent) ≡ 16) ⌝ }
+    requires { ⌜ (processors ≡ processorsIn (now panel)) × (slot .0 < slotsIn (now panel)) × (length (now results) ≡ 16) × (length (now sent) ≡ 16) ⌝ }
+    ensures { λ r. ⌜ FirstAre processors (λ p. evaluated (networkIn (now (panel .entry)) (now (program .entry))) (moduleIn (now (panel .entry)) (now (program .entry))) (handIn (now (panel .entry))) (memoryOf (now (memory .entry))) p (slot .0)) (now (results .exit)) ⌝ }
     ensures { λ r. ⌜ FirstAre processors (λ p. sentBy (moduleIn (now (panel .entry)) (now (program .entry))) (memoryOf (now (memory .entry))) p (slot .0)) (now (sent .exit)) ⌝ }
 {
     let mut p: usize = 0;
     while p < processors {
-        sent[p] = sent_at(panel, program, memory, p, slot);
+        let line = tables::instruction_in(program, p, slot);
+        results[p] = evaluate(panel, memory, p, line);
+        let send = line.send;
+        sent[p] = memory::fetch(memory, p, send);
         p += 1;
     }
 }
 
 // The result "goes to local location i", in the present half. "An empty slot stores no local value".
-fn store_result(program: &[u8], processor: usize, slot: Slot, value: u8, memory: &mut [u8])
-    requires { ⌜ (length (now program) ≡ programLength) × (length (now memory) ≡ memoryLength) × (processor < 16) × (slot .0 < 256) ⌝ }
-    ensures { λ r. ⌜ now (memory .exit) ≡ storedIf (not (eqb (signalAt (now (program .entry)) processor (slot .0)) 0)) (now (memory .entry)) (place processor localPresent (slot .0)) value ⌝ }
+fn store_result(signal: u16, processor: usize, slot: Slot, value: u8, memory: &mut [u8])
+    requires { ⌜ (length (now memory) ≡ memoryLength) × (processor < 16) × (slot .0 < 256) ⌝ }
+    ensures { λ r. ⌜ now (memory .exit) ≡ storedIf (not (eqb signal 0)) (now (memory .entry)) (place processor localPresent (slot .0)) value ⌝ }
 {
-    let line = tables::instruction_in(program, processor, slot);
     let i = slot.0;
-    if line.signal != 0 {
+    if signal != 0 {
         memory[1280 * processor + 256 + (i as usize)] = value;
     }
 }
 
 // "the received value goes to switch location i", in the present half; "a slot that receives none stores no switch value".
-fn store_received(program: &[u8], processor: usize, slot: Slot, sent: &[u8], memory: &mut [u8])
-    requires { ⌜ (length (now program) ≡ programLength) × (length (now memory) ≡ memoryLength) × (processor < 16) × (slot .0 < 256) ⌝ }
-    requires { ⌜ ((senderAt (now program) processor (slot .0) ≡ noSender → ⊥) → senderAt (now program) processor (slot .0) < length (now sent)) ⌝ }
-    ensures { λ r. ⌜ now (memory .exit) ≡ storedIf (not (eqb (senderAt (now (program .entry)) processor (slot .0)) noSender)) (now (memory .entry)) (place processor switchPresent (slot .0)) (getD (now (sent .entry)) (senderAt (now (program .entry)) processor (slot .0)) 0) ⌝ }
+fn store_received(sender: u8, processor: usize, slot: Slot, sent: &[u8], memory: &mut [u8])
+    requires { ⌜ (length (now memory) ≡ memoryLength) × (processor < 16) × (slot .0 < 256) ⌝ }
+    requires { ⌜ ((sender ≡ noSender → ⊥) → sender < length (now sent)) ⌝ }
+    ensures { λ r. ⌜ now (memory .exit) ≡ storedIf (not (eqb sender noSender)) (now (memory .entry)) (place processor switchPresent (slot .0)) (getD (now (sent .entry)) sender 0) ⌝ }
 {
-    let line = tables::instruction_in(program, processor, slot);
     let i = slot.0;
-    let sender = line.sender;
     if sender != 99 {
         memory[1280 * processor + 768 + (i as usize)] = sent[sender as usize];
     }
 }
 
-// Both stores of a processor.
+// Both stores of a processor, by its line.
 fn store(
     panel: &[u8],
     program: &[u8],
@@ -157,8 +114,9 @@ fn store(
     requires { ⌜ (processor < processorsIn (now panel)) × (slot .0 < slotsIn (now panel)) ⌝ }
     ensures { λ r. ⌜ now (memory .exit) ≡ written (here processor (slot .0)) (storing (moduleIn (now (panel .entry)) (now (program .entry))) (slot .0) (now (results .entry)) (now (sent .entry)) (memoryOf (now (memory .entry)))) (now (memory .entry)) ⌝ }
 {
-    store_result(program, processor, slot, results[processor], memory);
-    store_received(program, processor, slot, sent, memory);
+    let line = tables::instruction_in(program, processor, slot);
+    store_result(line.signal, processor, slot, results[processor], memory);
+    store_received(line.sender, processor, slot, sent, memory);
 }
 
 // "then stores": every processor.
@@ -192,7 +150,14 @@ pub fn run_slot(panel: &[u8], program: &[u8], processors: usize, slot: Slot, mem
 {
     let mut results = [0u8; 16];
     let mut sent = [0u8; 16];
-    fetch_results(panel, program, memory, processors, slot, &mut results);
-    fetch_sent(panel, program, memory, processors, slot, &mut sent);
+    fetch_all(
+        panel,
+        program,
+        memory,
+        processors,
+        slot,
+        &mut results,
+        &mut sent,
+    );
     store_all(panel, program, processors, slot, &results, &sent, memory);
 }

@@ -1,16 +1,11 @@
 use Prim.Native.Nat.{_+_, _*_}
 use Rattle.model.specs.Module.{localPresent}
 use Rattle.memory.specs.Memory.{place}
-use mathlib.Core.Path.{sym, _∙_, ap}
-use Rattle.operands.specs.declared.Instruction.{Instruction}
 use Rattle.slot.proofs.Stores.{store-some, store-none}
 use native.Mathlib.Omega.{arith}
 use borrow.Author.Needs.{needs}
 use Rattle.slot.proofs.store_result.Statement.{statement}
 use Rattle.slot.proofs.store_result.Tie as tie
-
-instruction-in-requires : tie.Need-instruction-in-requires
-instruction-in-requires c κs = search needs
 
 mul-memory : tie.Need-mul-memory
 mul-memory c = search needs
@@ -32,20 +27,16 @@ same-length c = search needs
 
 returns : tie.Need-returns
 returns c =
-    let is = ap (λ (r : Instruction). r .signal) (c .before .before .instruction-in .ensures) in
-    let s = c .before .before .before .before .before in
-    store-some _ 0 (s .args .memory .now) (1280 * s .args .processor + 256 + s .args .slot .0) (place (s .args .processor) localPresent (s .args .slot .0)) (s .args .value) (λ e. c .if1 .taken (is ∙ e)) (omega arith)
+    let s = c .before in
+    store-some _ 0 (s .args .memory .now) (1280 * s .args .processor + 256 + s .args .slot .0) (place (s .args .processor) localPresent (s .args .slot .0)) (s .args .value) (c .if1 .taken) (omega arith)
 
 returns-2 : tie.Need-returns-2
-returns-2 c =
-    let is = ap (λ (r : Instruction). r .signal) (c .before .before .instruction-in .ensures) in
-    store-none _ 0 _ _ _ (sym is ∙ c .if1 .left)
+returns-2 c = store-none _ 0 _ _ _ (c .if1 .left)
 
 pub store-result-spec : {M : Type 1} → statement M
 store-result-spec =
     tie.close
     (tie.spec
-    instruction-in-requires
     mul-memory
     add-memory
     cast-memory
