@@ -8,12 +8,12 @@ use native.Mathlib.Numerals.{add-one}
 use native.Mathlib.Decide.{ℕ-discrete}
 use lib.Dec.{eqb}
 use lib.ListN.{length, getD, set, length-set}
-use lib.Seq.{getD-set-same, getD-set-other}
+use lib.Seq.{getD-set-same, getD-set-other, set-getD}
 use borrow.Author.Tests.{eqb-true, eqb-false, ne-eqb}
 use Rattle.logic.specs.Choice.{if_then_else_}
 use Rattle.logic.proofs.Listed.{is-listed, set-at}
 use Rattle.model.specs.Session.{Head}
-use Rattle.tables.specs.Panel.{panelLength}
+use Rattle.tables.specs.Panel.{panelLength, handIn}
 use Rattle.header.specs.Header.{headBytes, headByte, withHead}
 use Rattle.header.specs.Stores.{wordStored, numbersStored, handStored}
 
@@ -81,6 +81,11 @@ module _ (finished signal mask : ℕ) (old : List ℕ) (size : length old ≡ pa
       (word-at signal 7 (wordStored finished 5 old) j first (omega arith)
       ∙ ap (λ (x : ℕ). if eqb j 8 then signal / 256 else if eqb j 7 then signal % 256 else x) (word-at finished 5 old j size (omega arith)))
 
+  numbers-beyond : (a : ℕ) → 9 < a → getD (numbersStored finished signal mask old) a 0 ≡ getD old a 0
+  numbers-beyond a k =
+      numbers-at a
+      ∙ rw (ne-eqb a 9 (omega arith), ne-eqb a 8 (omega arith), ne-eqb a 7 (omega arith), ne-eqb a 6 (omega arith), ne-eqb a 5 (omega arith))
+
 module _ (h : Head) (hand old : List ℕ) (size : length old ≡ panelLength) (in-hand : (s : ℕ) → h .hand s ≡ getD hand s 0) where
   abbrev numbers : List ℕ
   numbers = numbersStored (h .finished) (h .watch .signal) (h .watch .mask) old
@@ -114,11 +119,6 @@ module _ (h : Head) (hand old : List ℕ) (size : length old ≡ panelLength) (i
       sized : length numbers ≡ panelLength
       sized = numbers-size (h .finished) (h .watch .signal) (h .watch .mask) old size
 
-      beyond : (a : ℕ) → 9 < a → getD numbers a 0 ≡ getD old a 0
-      beyond a k =
-          numbers-at (h .finished) (h .watch .signal) (h .watch .mask) old size a
-          ∙ rw (ne-eqb a 9 (omega arith), ne-eqb a 8 (omega arith), ne-eqb a 7 (omega arith), ne-eqb a 6 (omega arith), ne-eqb a 5 (omega arith))
-
       go : (t : Bool) → eqb j 7 ≡ t → getD (handStored hand 4096 numbers) (10 * suc s + j) 0 ≡ (if t then h .hand (suc s) else getD old (10 * suc s + j) 0)
       go true e =
           let i = eqb-true j 7 e in
@@ -126,7 +126,7 @@ module _ (h : Head) (hand old : List ℕ) (size : length old ≡ panelLength) (i
           ap (λ (x : ℕ). getD (handStored hand 4096 numbers) x 0) q ∙ hand-there hand numbers sized 4096 s (omega arith) (omega arith) ∙ sym (in-hand (suc s))
       go false e =
           let d = eqb-false j 7 e in
-          hand-else hand numbers sized 4096 (10 * suc s + j) (λ k m i. d (omega arith)) ∙ beyond (10 * suc s + j) (omega arith)
+          hand-else hand numbers sized 4096 (10 * suc s + j) (λ k m i. d (omega arith)) ∙ numbers-beyond (h .finished) (h .watch .signal) (h .watch .mask) old size (10 * suc s + j) (omega arith)
 
   pub head-stored : handStored hand 4096 numbers ≡ withHead h old
   unfolding withHead
@@ -138,6 +138,26 @@ module _ (h : Head) (hand old : List ℕ) (size : length old ≡ panelLength) (i
       at a l =
           let q : 10 * (a / 10) + a % 10 ≡ a = omega arith in
           ap (λ (x : ℕ). getD (handStored hand 4096 numbers) x 0) (sym q) ∙ stored-byte (a / 10) (a % 10) (omega arith) (omega arith)
+
+-- values in hand that stand there already
+hand-stays : (hand old : List ℕ) (n : ℕ) → ((s : ℕ) → s < n → getD old (10 * s + 17) 0 ≡ getD hand (suc s) 0) → handStored hand n old ≡ old
+unfolding handStored
+hand-stays hand old zero h = refl
+hand-stays hand old (suc n) h =
+    rw (hand-stays hand old n (λ s l. h s (omega arith)), sym (h n (omega arith))) (set-getD old (10 * n + 17) 0)
+
+-- the numbers alone, where the panel has the head's values in hand
+pub numbered : (h : Head) (hand old l : List ℕ) → length old ≡ panelLength → ((s : ℕ) → h .hand s ≡ getD hand s 0)
+    → ((s : ℕ) → 1 ≤ s → s ≤ 4096 → handIn old s ≡ h .hand s) → l ≡ numbersStored (h .finished) (h .watch .signal) (h .watch .mask) old
+    → l ≡ withHead h old
+numbered h hand old l size in-hand there e =
+    e ∙ sym (hand-stays hand (numbersStored (h .finished) (h .watch .signal) (h .watch .mask) old) 4096 same) ∙ head-stored h hand old size in-hand
+  where
+    same : (s : ℕ) → s < 4096 → getD (numbersStored (h .finished) (h .watch .signal) (h .watch .mask) old) (10 * s + 17) 0 ≡ getD hand (suc s) 0
+    same s b =
+        let q : 10 * s + 17 ≡ 10 * suc s + 7 = omega arith in
+        numbers-beyond (h .finished) (h .watch .signal) (h .watch .mask) old size (10 * s + 17) (omega arith)
+        ∙ ap (λ (x : ℕ). getD old x 0) q ∙ there (suc s) (omega arith) (omega arith) ∙ in-hand (suc s)
 
 -- what the two functions leave, one after the other
 pub encoded : (h : Head) (hand old l m : List ℕ) → length old ≡ panelLength → ((s : ℕ) → h .hand s ≡ getD hand s 0)

@@ -145,6 +145,18 @@ impl Session {
         store_hand(&self.hand, panel);
     }
 
+    // The same, where the panel has the values in hand already: the cycles finished and the watch alone.
+    pub fn encode_numbers(self, panel: &mut [u8])
+        requires { ⌜ length (now panel) ≡ panelLength ⌝ }
+        requires { ⌜ ((s : ℕ) → 1 ≤ s → s ≤ 4096 → handIn (now panel) s ≡ headOf self .hand s) ⌝ }
+        ensures { λ _. ⌜ now (panel .exit) ≡ withHead (headOf self) (now (panel .entry)) ⌝ }
+    {
+        let finished = self.finished.0;
+        let signal = self.watch.signal;
+        let mask = self.watch.mask;
+        store_numbers(finished, signal, mask, panel);
+    }
+
     // The value in hand of a signal, replaced.
     fn with_value(self, signal: usize, value: u8) -> Session
         requires { ⌜ signal ≤ 4096 ⌝ }

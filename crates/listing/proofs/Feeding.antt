@@ -54,6 +54,7 @@ fed-starts stim panel t line h few =
       times = λ k l u. absurd (omega arith);
       finished = refl;
       watch = refl;
+      unfed = λ e s. refl;
       sound = λ few r. r;
       hands = λ n feeds l hand. hand;
     }
@@ -119,6 +120,7 @@ module _ {stim panel : List ℕ} {t line : ℕ} {first : Head} {h : Head} {at : 
             times = λ k l u. passed k l u (ℕ-discrete k at);
             finished = set-keeps .0 ∙ fed .finished;
             watch = set-keeps .1 ∙ fed .watch;
+            unfed = λ e s. absurd (omega (arith, fed .low));
             sound = λ few r. set-sound panel h signal value few (fed .sound few r);
             hands = hands;
           }

@@ -82,6 +82,7 @@ module _ (files : Files) (accepted : Accepted panelLimit files) where
         mask = ap (λ (h : Head). h .watch .mask) head ∙ zeroth .2;
         right = opened-right;
         sound = subst (λ (h : Head). Sound panel h) (sym head) (head-sound panel (opened-right .sizes .panel-size) own (panel-in-range panel program memory (opened-right .range)));
+        in-panel = λ s low high. sym (ap (λ (h : Head). h .hand s) head);
         passed = passed;
         hands = λ s g i. ap (λ (h : Head). h .hand s) head ∙ opened-hands (l .cursor .line) passed s g;
         holding = loaded-holding (files .NET) (files .MOD) (net-accepted panelLimit files accepted) (mod-accepted panelLimit files accepted) (files .STIM);

@@ -39,7 +39,7 @@ use Rattle.listing.specs.declared.Lister.{Lister}
 use Rattle.listing.specs.declared.Piece.{Piece}
 use Rattle.listing.specs.Changes.{valueHeld, changeLines, Shows}
 use Rattle.listing.specs.Feeding.{Stimulus, Passed, Feeds, InHand, Fed}
-use Rattle.listing.specs.Cycling.{Right, Ready, cycled}
+use Rattle.listing.specs.Cycling.{Right, Ready, InPanel, cycled}
 use Rattle.listing.specs.Pieces.{pieceAt}
 use Rattle.listing.specs.Standing.{shownAt, Stands, Gives}
 use Rattle.listing.proofs.Cycling.{cycle-right, cycle-sound}
@@ -163,6 +163,7 @@ gives-first {files} {l} {stim} {panel} {program} {memory} {shown} s lent out sho
             mask = s .mask;
             right = s .right;
             sound = s .sound;
+            in-panel = s .in-panel;
             passed = s .passed;
             hands = s .hands;
             holding = s .holding;
@@ -197,6 +198,10 @@ module _ {files : Files} {t : ℕ} {l : Lister} {stim panel program memory shown
         mask = rw (fed .watch) (s .mask);
         left = omega (arith, fed .finished, s .finished, end-small (networkOf files) given-stim accepts);
       }
+
+  -- a session that was not fed has its values in the panel
+  pub stands-unfed : next ≡ l .cursor .line → InPanel panel h
+  stands-unfed e x low high = s .in-panel x low high ∙ sym (fed .unfed e x)
 
   passed-next : Passed given-stim (suc t) next
   passed-next =
@@ -273,6 +278,7 @@ module _ {files : Files} {t : ℕ} {l : Lister} {stim panel program memory shown
                 mask = ap (λ (x : Head). x .watch .mask) head ∙ stands-ready .mask;
                 right = cycle-stands;
                 sound = rw head (cycle-sound h panel program memory stands-ready);
+                in-panel = λ x low high. with-head-hand h panel x low high ∙ sym (ap (λ (q : Head). q .hand x) head);
                 passed = rw line passed-next;
                 hands = λ x g i.
                     ap (λ (q : Head). q .hand x) head ∙ hands-next x g i ∙ ap (λ (y : ℕ). lastGiven given-stim (suc t) x y) (sym line);
@@ -309,6 +315,12 @@ module _ {files : Files} where
       → (next < stimCount stim → stimTime stim next ≡ m → ⊥) → Ready h panel program memory
   later-ready zero s d more fed stops = absurd (d refl)
   later-ready (suc t) s d more fed stops = stands-ready s (omega (arith, s .end)) fed stops
+
+  pub later-unfed : (m : ℕ) {l : Lister} {stim panel program memory shown : List ℕ} → Stands files m l stim panel program memory shown
+      → (m ≡ 0 → ⊥) → m ≤ l .end .0 → {h : Head} {next : ℕ} → Fed stim panel m (l .cursor .line) (headOf (l .session)) h next
+      → (next < stimCount stim → stimTime stim next ≡ m → ⊥) → next ≡ l .cursor .line → InPanel panel h
+  later-unfed zero s d more fed stops = absurd (d refl)
+  later-unfed (suc t) s d more fed stops = stands-unfed s (omega (arith, s .end)) fed stops
 
   pub later-right : (m : ℕ) {l : Lister} {stim panel program memory shown : List ℕ} → Stands files m l stim panel program memory shown
       → (m ≡ 0 → ⊥) → m ≤ l .end .0 → {h : Head} {next : ℕ} → Fed stim panel m (l .cursor .line) (headOf (l .session)) h next

@@ -1,10 +1,11 @@
 -- What a cycle asks for, and the head after it.
-use Prim.Native.Nat.{ℕ, _+_, _<_}
+use Prim.Native.Nat.{ℕ, _+_, _≤_, _<_}
 use mathlib.Core.Path.{_≡_}
 use mathlib.Core.Bool.{true}
 use mathlib.Core.List.{List}
 use lib.ListN.{length}
 use Rattle.model.specs.Session.{Head}
+use Rattle.tables.specs.Panel.{handIn}
 use Rattle.ranges.specs.Ranges.{ranged}
 use Rattle.lengths.proofs.Sizes.{Sizes}
 use Rattle.kept.proofs.Sound.{Sound}
@@ -20,6 +21,10 @@ pub record Ready (h : Head) (panel program memory : List ℕ) : Type 0 where
   pub sound : Sound panel h
   pub mask : h .watch .mask ≡ 0
   pub left : h .finished < 65535
+
+-- the panel has a head's values in hand
+abbrev pub InPanel : List ℕ → Head → Type 0
+InPanel panel h = (s : ℕ) → 1 ≤ s → s ≤ 4096 → handIn panel s ≡ h .hand s
 
 -- one cycle more is finished
 abbrev pub cycled : Head → Head

@@ -39,5 +39,6 @@ pub record Fed (stim panel : List ℕ) (t line : ℕ) (before after : Head) (nex
   pub times : (k : ℕ) → line ≤ k → k < next → stimTime stim k ≡ t
   pub finished : after .finished ≡ before .finished
   pub watch : after .watch ≡ before .watch
+  pub unfed : next ≡ line → (s : ℕ) → after .hand s ≡ before .hand s
   pub sound : signalsIn panel ≤ 4096 → Sound panel before → Sound panel after
   pub hands : (n : Network) → Feeds n stim panel → 1 ≤ t → InHand n stim t line before → InHand n stim t next after

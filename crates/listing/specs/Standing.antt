@@ -19,7 +19,7 @@ use Rattle.listing.specs.declared.Lister.{Lister}
 use Rattle.listing.specs.declared.Piece.{Piece}
 use Rattle.listing.specs.Changes.{pieceLength, shownLength, notShown}
 use Rattle.listing.specs.Feeding.{Passed, InHand}
-use Rattle.listing.specs.Cycling.{Right}
+use Rattle.listing.specs.Cycling.{Right, InPanel}
 use Rattle.listing.specs.Pieces.{pieceAt}
 
 -- the value of s that the pieces so far told last
@@ -42,6 +42,7 @@ pub record Stands (files : Files) (k : ℕ) (l : Lister) (stim panel program mem
   pub mask : l .session .watch .mask ≡ 0
   pub right : Right panel program memory
   pub sound : Sound panel (headOf (l .session))
+  pub in-panel : InPanel panel (headOf (l .session))
   pub passed : Passed (files .STIM) (cyclesAt k) (l .cursor .line)
   pub hands : InHand (networkOf files) (files .STIM) (cyclesAt k) (l .cursor .line) (headOf (l .session))
   pub holding : Holding (networkOf files) (scheduleOf files) panel program

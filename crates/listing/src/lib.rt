@@ -1,6 +1,7 @@
 // The listing, a piece a step (01, Listing): time 0, then every cycle, then the last line; and the line of a refusal.
 
 ghost use mathlib.Core.Path.{_≡_};
+ghost use mathlib.Core.Bool.{false};
 ghost use Prim.Native.Nat.{ℕ, _+_, _≤_, _<_};
 ghost use lib.ListN.{length, getD, set};
 ghost use lib.Seq.{sets};
@@ -16,7 +17,7 @@ ghost use Rattle.header.specs.Header.{headOf, withHead};
 ghost use Rattle.listing.specs.Refused.{refusedText};
 ghost use Rattle.listing.specs.Changes.{pieceLength, shownLength, valueHeld, changeLine, changeLines, Shows};
 ghost use Rattle.listing.specs.Feeding.{Stimulus, Passed, Fed};
-ghost use Rattle.listing.specs.Cycling.{Ready, cycled};
+ghost use Rattle.listing.specs.Cycling.{Ready, InPanel, cycled};
 ghost use Rattle.listing.specs.Standing.{Stands, Standing, Gives};
 use checks::FileAnswer;
 use header::Session;
@@ -154,14 +155,34 @@ fn take_settings(session: Session, cursor: Cursor, time: u16, stim: &[u8], panel
     }
 }
 
+// The session written into the panel: its values in hand only where there are new ones.
+fn write_back(session: Session, fed: bool, panel: &mut [u8])
+    requires { ⌜ length (now panel) ≡ panelLength ⌝ }
+    requires { ⌜ (fed ≡ false → InPanel (now panel) (headOf session)) ⌝ }
+    ensures { λ _. ⌜ now (panel .exit) ≡ withHead (headOf session) (now (panel .entry)) ⌝ }
+{
+    if fed {
+        session.encode(panel);
+        return;
+    }
+    session.encode_numbers(panel);
+}
+
 // One cycle with the values in hand: "run k cycles" with k = 1 and a mask that watches nothing.
-fn run_one(session: Session, panel: &mut [u8], program: &[u8], memory: &mut [u8]) -> Session
+fn run_one(
+    session: Session,
+    fed: bool,
+    panel: &mut [u8],
+    program: &[u8],
+    memory: &mut [u8],
+) -> Session
     requires { ⌜ Ready (headOf session) (now panel) (now program) (now memory) ⌝ }
+    requires { ⌜ (fed ≡ false → InPanel (now panel) (headOf session)) ⌝ }
     ensures { λ r. ⌜ headOf r ≡ cycled (headOf session) ⌝ }
     ensures { λ _. ⌜ now (panel .exit) ≡ withHead (headOf session) (now (panel .entry)) ⌝ }
     ensures { λ _. ⌜ now (memory .exit) ≡ held (processorsIn (now (panel .entry))) (slotsIn (now (panel .entry))) (cycleIn (withHead (headOf session) (now (panel .entry))) (now (program .entry)) (memoryOf (now (memory .entry)))) (now (memory .entry)) ⌝ }
 {
-    session.encode(panel);
+    write_back(session, fed, panel);
     let told = session.run(panel, program, memory, 1);
     told.session
 }
@@ -250,7 +271,8 @@ impl Lister {
         let settled = take_settings(session, cursor, time, stim, panel);
         let ready = settled.session;
         let rest = settled.cursor;
-        let after = run_one(ready, panel, program, memory);
+        let fed = rest.line != cursor.line;
+        let after = run_one(ready, fed, panel, program, memory);
         let length = write_changes(time, panel, memory, shown, out);
         Piece {
             lister: Lister {

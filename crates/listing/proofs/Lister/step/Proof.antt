@@ -1,8 +1,9 @@
 -- Each of the three ways to make a piece, by the number of pieces given.
 use mathlib.Core.Path.{refl, sym, _∙_}
 use native.Mathlib.Omega.{arith}
+use borrow.Author.Tests.{eqb-true, not-false}
 use Rattle.listing.proofs.Changes.{length-line}
-use Rattle.listing.proofs.Standing.{right-signals, right-processor, right-memory, stands-stimulus, stands-few, stands-end, stands-pieces, gives-last, at-count, by-count, gives-zeroth, later-ready, later-right, gives-later}
+use Rattle.listing.proofs.Standing.{right-signals, right-processor, right-memory, stands-stimulus, stands-few, stands-end, stands-pieces, gives-last, at-count, by-count, gives-zeroth, later-ready, later-unfed, later-right, gives-later}
 use borrow.Author.Needs.{needs}
 use Rattle.listing.proofs.Lister.step.Statement.{statement}
 use Rattle.listing.proofs.Lister.step.Tie as tie
@@ -16,8 +17,8 @@ slice-aggregate-write-line c = search needs
 write-line-requires : tie.Need-write-line-requires
 write-line-requires c κs = search needs
 
-add-t28 : tie.Need-add-t28
-add-t28 c =
+add-t29 : tie.Need-add-t29
+add-t29 c =
     let s = c .before .before .before .before .before .before .before .before .before .before .before .before .before .before .before in
     omega (arith, stands-end (s .pre .0 .stands), stands-pieces (s .pre .0 .stands))
 
@@ -59,22 +60,22 @@ take-settings-requires c κs =
 
 run-one-requires : tie.Need-run-one-requires
 run-one-requires c κs =
-    let st = c .before .before .before .before .before .before .before .before .before .before .before .before .before .before .before .before .before .pre .0 .stands in
-    let fed = c .before .before .before .before .take-settings .ensures in
-    later-ready _ (at-count st) (c .before .before .before .before .before .before .if2 .left) (c .before .before .before .before .before .before .before .if1 .left) (fed .0) (fed .1)
+    let st = c .before .before .before .before .before .before .before .before .before .before .before .before .before .before .before .before .before .before .before .pre .0 .stands in
+    let fed = c .before .before .before .before .before .before .take-settings .ensures in
+    (later-ready _ (at-count st) (c .before .before .before .before .before .before .before .before .if2 .left) (c .before .before .before .before .before .before .before .before .before .if1 .left) (fed .0) (fed .1), λ e. later-unfed _ (at-count st) (c .before .before .before .before .before .before .before .before .if2 .left) (c .before .before .before .before .before .before .before .before .before .if1 .left) (fed .0) (fed .1) (eqb-true _ _ (not-false _ e)))
 
 write-changes-requires-2 : tie.Need-write-changes-requires-2
 write-changes-requires-2 c κs =
-    let s = c .before .before .before .before .before .before .before .before .before .before .before .before .before .before .before .before .before .before .before .before .before .before .before .before .before .before in
+    let s = c .before .before .before .before .before .before .before .before .before .before .before .before .before .before .before .before .before .before .before .before .before .before .before .before .before .before .before .before in
     let st = s .pre .0 .stands in
-    let fed = c .before .before .before .before .before .before .before .before .before .before .before .before .before .take-settings .ensures in
+    let fed = c .before .before .before .before .before .before .before .before .before .before .before .before .before .before .before .take-settings .ensures in
     let ran = c .before .before .before .before .before .before .before .before .run-one .ensures in
-    let right = later-right _ (at-count st) (c .before .before .before .before .before .before .before .before .before .before .before .before .before .before .before .if2 .left) (c .before .before .before .before .before .before .before .before .before .before .before .before .before .before .before .before .if1 .left) (fed .0) (fed .1) _ (ran .1 .1) in
+    let right = later-right _ (at-count st) (c .before .before .before .before .before .before .before .before .before .before .before .before .before .before .before .before .before .if2 .left) (c .before .before .before .before .before .before .before .before .before .before .before .before .before .before .before .before .before .before .if1 .left) (fed .0) (fed .1) _ (ran .1 .1) in
     rw (ran .1 .0) ((right .sizes .panel-size, right-signals right), (right-processor right, (right-memory right, (st .shown-size, s .pre .1))))
 
-add-t21 : tie.Need-add-t21
-add-t21 c =
-    let s = c .before .before .before .before .before .before .before .before .before .before .before .before .before .before .before .before .before .before .before .before .before .before .before .before .before .before .before .before .before .before .before in
+add-t22 : tie.Need-add-t22
+add-t22 c =
+    let s = c .before .before .before .before .before .before .before .before .before .before .before .before .before .before .before .before .before .before .before .before .before .before .before .before .before .before .before .before .before .before .before .before .before in
     omega (arith, stands-end (s .pre .0 .stands), stands-pieces (s .pre .0 .stands))
 
 same-length-6 : tie.Need-same-length-6
@@ -90,7 +91,7 @@ same-length-9 : tie.Need-same-length-9
 same-length-9 c = search needs
 
 returns-3 : tie.Need-returns-3
-returns-3 c = λ files k s. let fed = c .before .before .before .before .before .before .before .before .before .before .before .before .before .before .before .before .before .before .take-settings .ensures in let ran = c .before .before .before .before .before .before .before .before .before .before .before .before .before .run-one .ensures in let w = c .before .before .before .before .write-changes2 .ensures in by-count s (gives-later _ (at-count s) (c .before .before .before .before .before .before .before .before .before .before .before .before .before .before .before .before .before .before .before .before .if2 .left) (c .before .before .before .before .before .before .before .before .before .before .before .before .before .before .before .before .before .before .before .before .before .if1 .left) (fed .0) (fed .1) _ (ran .1 .0) _ (ran .1 .1) _ _ _ _ (w .0) (w .1 .0) (w .1 .1) (ran .0) refl refl refl)
+returns-3 c = λ files k s. let fed = c .before .before .before .before .before .before .before .before .before .before .before .before .before .before .before .before .before .before .before .before .take-settings .ensures in let ran = c .before .before .before .before .before .before .before .before .before .before .before .before .before .run-one .ensures in let w = c .before .before .before .before .write-changes2 .ensures in by-count s (gives-later _ (at-count s) (c .before .before .before .before .before .before .before .before .before .before .before .before .before .before .before .before .before .before .before .before .before .before .if2 .left) (c .before .before .before .before .before .before .before .before .before .before .before .before .before .before .before .before .before .before .before .before .before .before .before .if1 .left) (fed .0) (fed .1) _ (ran .1 .0) _ (ran .1 .1) _ _ _ _ (w .0) (w .1 .0) (w .1 .1) (ran .0) refl refl refl)
 
 pub step-spec : {M : Type 1} → statement M
 step-spec =
@@ -99,7 +100,7 @@ step-spec =
     cast-if1
     slice-aggregate-write-line
     write-line-requires
-    add-t28
+    add-t29
     same-length
     returns
     cast-time
@@ -112,7 +113,7 @@ step-spec =
     take-settings-requires
     run-one-requires
     write-changes-requires-2
-    add-t21
+    add-t22
     same-length-6
     same-length-7
     same-length-8
