@@ -2,13 +2,12 @@
 use Prim.Native.Nat.{ℕ, zero, suc, _<_, _≤_}
 use mathlib.Core.Path.{_≡_, refl, sym, subst, _∙_, ap}
 use mathlib.Core.Bool.{Bool, true, false, not}
-use mathlib.Core.Logic.{_⊎_, inl, inr}
 use native.Mathlib.Omega.{arith}
 use lib.Dec.{eqb}
 use Rattle.model.specs.Network.{Network, Signal}
 use Rattle.model.specs.Module.{Module, At, Laid, noSender, received}
 use Rattle.model.specs.Machine.{Memory, fetch, operand, result, sent, stored, slot, slots, alternate, cycle}
-use Rattle.model.proofs.Machine.{Near, slot-near, near-alternated}
+use Rattle.model.proofs.Machine.{signal-at, sender-at, Near, slot-near, near-alternated}
 use Rattle.model.proofs.Operands.{differ}
 use Rattle.tables.specs.Holding.{SameLines}
 
@@ -37,7 +36,7 @@ module _ (n : Network) {f : Network} {m g : Module} (lines : SameLines m g) (lai
     result-same : 1 ≤ g .signal p i → result n m row w p i ≡ result f g row w p i
     unfolding result
     result-same some =
-        let s : Signal f (g .signal p i) = record { low = some; high = laid .signals p i a } in
+        let s : Signal f (g .signal p i) = signal-at laid a some in
         rw (
           lines .signals p i a,
           kinds (g .signal p i) s,
@@ -52,14 +51,10 @@ module _ (n : Network) {f : Network} {m g : Module} (lines : SameLines m g) (lai
     unfolding sent
     sent-same some =
         let q = g .sender p i in
-        let b : At g q i = record { processor = low (laid .senders p i a); slot = a .slot } in
+        let b : At g q i = sender-at laid a some in
         ap (λ (x : ℕ). fetch w x (m .sendPart x i) (m .sendLocation x i)) (lines .senders p i a)
         ∙ ap (λ (x : ℕ). fetch w q x (m .sendLocation q i)) (lines .send-parts q i b)
         ∙ ap (λ (x : ℕ). fetch w q (g .sendPart q i) x) (lines .send-locations q i b)
-      where
-        low : (g .sender p i < g .processors) ⊎ (g .sender p i ≡ noSender) → g .sender p i < g .processors
-        low (inl h) = h
-        low (inr e) = absurd (some e)
 
   slot-same : (w : Memory) (i : ℕ) → i < g .slots → Near g (slot n m row i w) (slot f g row i w)
   unfolding slot

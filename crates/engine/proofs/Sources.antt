@@ -15,6 +15,7 @@ use Rattle.model.specs.Netlist.{network}
 use Rattle.model.specs.Module.{Module, At, Laid, localPresent, switchPresent, noPart, noSender, sentSignal, Sent, present, earlier, Carries, local-earlier, local-present, local-not-yet, switch-earlier, switch-present, switch-not-yet, mustBeNone, operandRight}
 use Rattle.model.specs.Acceptance.{panelLimit, networkOf, scheduleOf, Accepted}
 use Rattle.model.proofs.Conditions.{Scheduled}
+use Rattle.model.proofs.Machine.{operand-at, sender-at, sent-at}
 use Rattle.model.proofs.Operands.{IsGate, Fits, unused, carried, operand-exact}
 use Rattle.model.proofs.Accepted.{net-accepted, net-signal}
 use Rattle.model.proofs.Demands.{accepted-formed, accepted-scheduled}
@@ -27,15 +28,10 @@ module _ {n : Network} {m t : Module} (same : SameLines t m) (laid : Laid n m) (
   sent-same : (m .sender p k ≡ noSender → ⊥) → sentSignal t p k ≡ sentSignal m p k
   sent-same received =
       let q = m .sender p k in
-      let b : At m q k = record { processor = low (laid .senders p k a); slot = a .slot } in
-      let c : At m q (m .sendLocation q k) = record { processor = b .processor; slot = laid .send-locations q k b } in
+      let b : At m q k = sender-at laid a received in
       ap (λ (x : ℕ). t .signal x (t .sendLocation x k)) (same .senders p k a)
       ∙ ap (λ (x : ℕ). t .signal q x) (same .send-locations q k b)
-      ∙ same .signals q (m .sendLocation q k) c
-    where
-      low : (m .sender p k < m .processors) ⊎ (m .sender p k ≡ noSender) → m .sender p k < m .processors
-      low (inl h) = h
-      low (inr e) = absurd (received e)
+      ∙ same .signals q (m .sendLocation q k) (sent-at laid a received)
 
   sent-there : {late : ℕ} → Sent m p k late → sentSignal t p k ≡ sentSignal m p k
   sent-there (present received is) = sent-same received
@@ -103,7 +99,7 @@ module _ (files : Files) (accepted : Accepted panelLimit files) (panel program :
         go (unused e none) = named-none none ∙ sym e ∙ ap (λ (x : ℕ). n .source x j) is
         go (carried h c) =
             named-line
-            ∙ named-carried (holding .lines) (ok .laid) p (m .location p i j) (record { processor = a .processor; slot = ok .laid .locations p i j a l }) i (m .part p i j) _ _ c
+            ∙ named-carried (holding .lines) (ok .laid) p (m .location p i j) (operand-at (ok .laid) a j l) i (m .part p i j) _ _ c
             ∙ ap (λ (x : ℕ). n .source x j) is
 
     input-source : n .kind (m .signal p i) ≡ input → namedSignal t p i j ≡ n .source s j

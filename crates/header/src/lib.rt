@@ -2,7 +2,7 @@
 
 ghost use mathlib.Core.Path.{_≡_};
 ghost use mathlib.Core.List.{List};
-ghost use Prim.Native.Nat.{ℕ, _+_, _*_, _≤_, _<_};
+ghost use Prim.Native.Nat.{ℕ, _≤_, _<_};
 ghost use lib.ListN.{length, set};
 ghost use Rattle.logic.specs.Listed.{listed};
 ghost use Rattle.model.specs.Session.{set as setting, watch as watching, read as reading, run as running};
@@ -47,13 +47,6 @@ fn take_hand(panel: &[u8], hand: &mut [u8])
     }
 }
 
-// The number in two bytes. That the low one is below 256 lets it be taken apart again.
-fn word_of(low: u8, high: u8) -> u16
-    ensures { λ r. ⌜ (r ≡ low + 256 * high) × (low < 256) ⌝ }
-{
-    tables::widened(low) + 256 * tables::widened(high)
-}
-
 // The session that a panel holds. Written back as it is, it changes no byte.
 pub fn decode(panel: &[u8]) -> Session
     requires { ⌜ length (now panel) ≡ panelLength ⌝ }
@@ -62,9 +55,9 @@ pub fn decode(panel: &[u8]) -> Session
     let mut hand = [0u8; 4097];
     take_hand(panel, &mut hand);
     Session {
-        finished: Cycle(word_of(panel[5], panel[6])),
+        finished: Cycle(tables::word_of(panel[5], panel[6])),
         watch: Watch {
-            signal: word_of(panel[7], panel[8]),
+            signal: tables::word_of(panel[7], panel[8]),
             mask: panel[9],
         },
         hand: hand,

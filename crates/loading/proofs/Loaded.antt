@@ -59,7 +59,7 @@ pub record SameSignals (a b : Network) (m : Module) (panel : List ℕ) (zeroth :
   pub places : (s : ℕ) → Signal b s → m .signal (processorIn panel s) (slotIn panel s) ≡ s
 
 -- the bytes of a line
-program-byte : (table : List ℕ) (p i c x : ℕ) → p < 16 → i < 256 → c < 13 → x ≡ lineIn p i + c
+pub program-byte : (table : List ℕ) (p i c x : ℕ) → p < 16 → i < 256 → c < 13 → x ≡ lineIn p i + c
     → getD (programOf table) x 0 ≡ programByte table p i c
 unfolding programOf
 program-byte table p i c x low-p low-i low-c e =
@@ -72,7 +72,7 @@ program-byte table p i c x low-p low-i low-c e =
     ∙ ap (λ (y : ℕ). programByte table p i y) d
 
 -- the bytes of a signal, and of the session at 0
-panel-byte : (net table stim : List ℕ) (s c x : ℕ) → s ≤ 4096 → c < 10 → x ≡ 10 * s + c
+pub panel-byte : (net table stim : List ℕ) (s c x : ℕ) → s ≤ 4096 → c < 10 → x ≡ 10 * s + c
     → getD (panelOf net table stim) x 0 ≡ panelByte net (modProcessors table) (modSlots table) (placeOf table) (timeZero net stim) s c
 unfolding panelOf panelWith
 panel-byte net table stim s c x low-s low-c e =
@@ -138,7 +138,7 @@ module _ (net table : List ℕ) (n : netCheck 4096 net ≡ pass) (m : modCheck (
 
     -- a byte of a signal
     module _ (s : ℕ) (g : Signal (network net) s) where
-      signal-byte : (c x : ℕ) → c < 10 → x ≡ 10 * s + c
+      pub signal-byte : (c x : ℕ) → c < 10 → x ≡ 10 * s + c
           → getD (panelOf net table stim) x 0
           ≡ getD (signalBytes net s (timeZero net stim s) (placeOf table s / modSlots table) (placeOf table s % modSlots table)) c 0
       unfolding network

@@ -2,7 +2,7 @@
 // byte, and a function answers what a byte is.
 
 ghost use mathlib.Core.Path.{_≡_};
-ghost use Prim.Native.Nat.{ℕ, _+_, _*_, _/_, _%_, _<_, _≤_};
+ghost use Prim.Native.Nat.{ℕ, _*_, _/_, _%_, _<_, _≤_};
 ghost use lib.ListN.{length, getD};
 ghost use Rattle.logic.specs.Listed.{listed};
 ghost use Rattle.model.specs.Refusal.{pass};
@@ -46,21 +46,14 @@ fn slots_of(table: &[u8]) -> usize
     fields::number_at(table, 6) as usize
 }
 
-// Where the line of a processor and a slot stands in MOD.
-fn line_at(processor: usize, slot: usize, slots: usize) -> usize
-    requires { ⌜ (processor < 16) × (slot < 256) × (slots ≤ 256) ⌝ }
-    ensures { λ r. ⌜ (r ≡ 85 * (1 + processor * slots + slot)) × (r ≤ 348160) ⌝ }
-{
-    85 * (1 + processor * slots + slot)
-}
-
 // A field of the line of a processor and a slot.
 fn field_at(table: &[u8], slots: usize, processor: usize, slot: usize, column: usize) -> u16
     requires { ⌜ Schedules (now table) ⌝ }
     requires { ⌜ (slots ≡ modSlots (now table)) × (processor < modProcessors (now table)) × (slot < slots) × (column < 14) ⌝ }
     ensures { λ r. ⌜ r ≡ modField (now (table .entry)) (modIndex (now (table .entry)) processor slot) column ⌝ }
 {
-    fields::number_at(table, line_at(processor, slot, slots) + 6 * column)
+    let at = schedule::line_place(processor as u16, slot as u16, slots as u16);
+    fields::number_at(table, at + 6 * column)
 }
 
 // One of the 13 bytes of a processor and a slot: the signal takes two, and every other number is below 256.

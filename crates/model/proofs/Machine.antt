@@ -63,20 +63,20 @@ taken n now new s = back new now (wanted (n .kind s))
 
 -- the lines of a module name its own locations
 module _ {n : Network} {m : Module} (laid : Laid n m) {p i : ℕ} (a : At m p i) where
-  signal-at : 1 ≤ m .signal p i → Signal n (m .signal p i)
+  pub signal-at : 1 ≤ m .signal p i → Signal n (m .signal p i)
   signal-at some = record { low = some; high = laid .signals p i a }
 
-  operand-at : (j : ℕ) → j < 4 → At m p (m .location p i j)
+  pub operand-at : (j : ℕ) → j < 4 → At m p (m .location p i j)
   operand-at j l = record { processor = a .processor; slot = laid .locations p i j a l }
 
-  sender-at : (m .sender p i ≡ noSender → ⊥) → At m (m .sender p i) i
+  pub sender-at : (m .sender p i ≡ noSender → ⊥) → At m (m .sender p i) i
   sender-at received = record { processor = go (laid .senders p i a); slot = a .slot }
     where
       go : (m .sender p i < m .processors) ⊎ (m .sender p i ≡ noSender) → m .sender p i < m .processors
       go (inl h) = h
       go (inr e) = absurd (received e)
 
-  sent-at : (m .sender p i ≡ noSender → ⊥) → At m (m .sender p i) (m .sendLocation (m .sender p i) i)
+  pub sent-at : (m .sender p i ≡ noSender → ⊥) → At m (m .sender p i) (m .sendLocation (m .sender p i) i)
   sent-at received =
       let b = sender-at received in
       record { processor = b .processor; slot = laid .send-locations (m .sender p i) i b }

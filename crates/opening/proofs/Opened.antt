@@ -28,20 +28,19 @@ use Rattle.model.proofs.Accepted.{net-accepted, mod-accepted, stim-accepted, ne
 use Rattle.model.proofs.Machine.{Small, opening-small}
 use Rattle.memory.specs.Memory.{blank, place, within}
 use Rattle.memory.proofs.Written.{Place, written-at}
-use Rattle.tables.specs.Panel.{panelLength, signalsIn, processorsIn, slotsIn, watchedIn, maskIn, kindIn}
-use Rattle.tables.specs.Program.{programLength, lineIn}
+use Rattle.tables.specs.Panel.{panelLength, signalsIn, processorsIn, slotsIn, kindIn}
 use Rattle.tables.specs.Tables.{networkIn, moduleIn}
 use Rattle.ranges.specs.Ranges.{codesRanged, ranged}
 use Rattle.ranges.proofs.Numbers.{Head, Numbers, Panel, zeros-input, supplied-gate}
 use Rattle.ranges.proofs.Laid.{Line}
 use Rattle.ranges.proofs.Ranged.{Program, Values, is-ranged, head-ranged}
-use Rattle.loading.specs.Loaded.{timeZero, placeOf, signalBytes, panelByte, panelWith, panelOf, programByte, programOf, openingBytes}
+use Rattle.loading.specs.Loaded.{timeZero, placeOf, panelOf, programOf, openingBytes}
 use Rattle.loading.specs.Values.{sentValue, openingByte}
-use Rattle.loading.proofs.Panel.{panel-above, panel-signal, code-byte}
+use Rattle.loading.proofs.Panel.{panel-above, code-byte}
 use Rattle.loading.proofs.Program.{byte-without}
 use Rattle.loading.proofs.Memory.{byte-outside, byte-local, byte-sent-earlier, byte-sent-present, byte-other}
 use Rattle.tables.specs.Holding.{SameLines}
-use Rattle.loading.proofs.Loaded.{SameSignals, loaded-module, loaded-network}
+use Rattle.loading.proofs.Loaded.{SameSignals, program-byte, panel-byte, loaded-module, signal-byte, loaded-network, loaded-head}
 use Rattle.opening.specs.Opened.{cleared}
 
 -- a pair of a module that has the same slots
@@ -92,27 +91,12 @@ module _ (net table stim : List ℕ) (n : netCheck 4096 net ≡ pass) (m : modCh
   zeroth-code s = held-code (network net) stim (stim-right (network net) stim t) 0 s
 
   -- the panel
-  abbrev byte : ℕ → ℕ → ℕ
-  byte = panelByte net (modProcessors table) (modSlots table) (placeOf table) (timeZero net stim)
-
-  panel-at : (x : ℕ) → x < panelLength → getD panel x 0 ≡ byte (x / 10) (x % 10)
-  unfolding panelOf panelWith
-  panel-at x l = listed-at panelLength (λ a. byte (a / 10) (a % 10)) x l
-
-  watched-is : watchedIn panel ≡ 1
-  unfolding panelByte
-  watched-is = omega (arith, panel-at 7 (omega arith), panel-at 8 (omega arith))
-
-  mask-is : maskIn panel ≡ 0
-  unfolding panelByte
-  mask-is = panel-at 9 (omega arith)
-
   head : Head panel
   head =
       let signals = signals-is in
       let processors = processors-is in
       let slots = slots-is in
-      let watched = watched-is in
+      let fresh = loaded-head net table n m stim in
       let size = net-size 4096 net n in
       let few = mod-processors (network net) table m in
       let short = mod-slots (network net) table m in
@@ -123,9 +107,9 @@ module _ (net table stim : List ℕ) (n : netCheck 4096 net ≡ pass) (m : modCh
         processors-high = omega (arith, few);
         slots-low = omega (arith, short);
         slots-high = omega (arith, short);
-        watched-low = omega arith;
-        watched-high = omega (arith, size);
-        mask-high = omega (arith, mask-is);
+        watched-low = omega (arith, fresh .1);
+        watched-high = omega (arith, fresh .1, size);
+        mask-high = omega (arith, fresh .2);
       }
 
   -- the bytes of a signal
@@ -137,19 +121,8 @@ module _ (net table stim : List ℕ) (n : netCheck 4096 net ≡ pass) (m : modCh
     right : SignalRight net s
     right = net-signal 4096 net n s is-signal
 
-    signal-at : (c : ℕ) → c < 10
-        → getD panel (10 * s + c) 0
-        ≡ getD (signalBytes net s (timeZero net stim s) (placeOf table s / modSlots table) (placeOf table s % modSlots table)) c 0
-    signal-at c h =
-        let q : (10 * s + c) / 10 ≡ s = omega arith in
-        let r : (10 * s + c) % 10 ≡ c = omega arith in
-        panel-at (10 * s + c) (omega (arith, net-size 4096 net n))
-        ∙ ap (λ (x : ℕ). byte x ((10 * s + c) % 10)) q
-        ∙ ap (λ (x : ℕ). byte s x) r
-        ∙ panel-signal net _ _ (placeOf table) (timeZero net stim) c s (λ (z : s ≡ 0). omega arith) high
-
     code-at : (c : ℕ) → 1 ≤ c → c < 7 → getD panel (10 * s + c) 0 ≡ netField net s (c + 1)
-    code-at c l h = signal-at c (omega arith) ∙ sym (code-byte net s _ _ _ c l h)
+    code-at c l h = signal-byte net table n m stim s is-signal c _ (omega arith) refl ∙ sym (code-byte net s _ _ _ c l h)
 
     kind-is : kindIn panel s ≡ netField net s 0
     unfolding networkIn network
@@ -211,22 +184,11 @@ module _ (net table stim : List ℕ) (n : netCheck 4096 net ≡ pass) (m : modCh
         head = head;
         signals = λ s low high. numbers s low (omega arith);
         rest = λ x low high.
-            panel-at x high ∙ panel-above net _ _ (placeOf table) (timeZero net stim) (x % 10) (x / 10) (omega arith);
+            panel-byte net table stim (x / 10) (x % 10) x (omega arith) (omega arith) (omega arith)
+            ∙ panel-above net _ _ (placeOf table) (timeZero net stim) (x % 10) (x / 10) (omega arith);
       }
 
   -- the program
-  program-at : (p i c : ℕ) → p < 16 → i < 256 → c < 13 → getD program (lineIn p i + c) 0 ≡ programByte table p i c
-  unfolding programOf
-  program-at p i c low-p low-i low-c =
-      let x = lineIn p i + c in
-      let a : x / 13 % 16 ≡ p = omega arith in
-      let b : x / 13 / 16 ≡ i = omega arith in
-      let d : x % 13 ≡ c = omega arith in
-      listed-at programLength (λ y. programByte table (y / 13 % 16) (y / 13 / 16) (y % 13)) x (omega arith)
-      ∙ ap (λ (y : ℕ). programByte table y (x / 13 / 16) (x % 13)) a
-      ∙ ap (λ (y : ℕ). programByte table p y (x % 13)) b
-      ∙ ap (λ (y : ℕ). programByte table p i y) d
-
   at-same : (p i : ℕ) → At (moduleIn panel program) p i → At (moduleOf table) p i
   at-same p i a =
       record {
@@ -253,7 +215,7 @@ module _ (net table stim : List ℕ) (n : netCheck 4096 net ≡ pass) (m : modCh
       record {
         lines = line-range;
         rest = λ p i c low-p low-i low-c e.
-            program-at p i c low-p low-i low-c ∙ byte-without table p i c (rw (processors-is, slots-is) at e);
+            program-byte table p i c _ low-p low-i low-c refl ∙ byte-without table p i c (rw (processors-is, slots-is) at e);
       }
 
   -- the memory

@@ -165,6 +165,14 @@ pub fn slot_of(k: usize, slots: u16) -> u16
     (k % (slots as usize)) as u16
 }
 
+// Where the line of a processor and a slot stands in MOD.
+pub fn line_place(processor: u16, slot: u16, slots: u16) -> usize
+    requires { ⌜ (processor < 16) × (slot < 256) × (slots ≤ 256) ⌝ }
+    ensures { λ r. ⌜ (r ≡ 85 * (1 + processor * slots + slot)) × (r ≤ 348160) ⌝ }
+{
+    85 * (1 + (processor as usize) * (slots as usize) + (slot as usize))
+}
+
 // The lines after the first, in their order: 20, then 21, with the first bad line.
 fn check_lines(table: &[u8], signals: u16, processors: u16, slots: u16) -> ModAnswer
     requires { ⌜ Sized (now table) processors slots ⌝ }

@@ -1,7 +1,7 @@
 // The working tables: the panel and the program, read where their layout has each number.
 
 ghost use mathlib.Core.Path.{_≡_};
-ghost use Prim.Native.Nat.{_+_, _<_, _≤_};
+ghost use Prim.Native.Nat.{_+_, _*_, _<_, _≤_};
 ghost use lib.ListN.{length, getD};
 ghost use Rattle.operands.specs.Operand.{operandOf};
 ghost use Rattle.tables.specs.Panel.{panelLength, word, codesIn};
@@ -23,12 +23,19 @@ pub fn widened(x: u8) -> u16
     x as u16
 }
 
+// The number in two bytes. That the low one is below 256 lets it be taken apart again.
+pub fn word_of(low: u8, high: u8) -> u16
+    ensures { λ r. ⌜ (r ≡ low + 256 * high) × (low < 256) ⌝ }
+{
+    widened(low) + 256 * widened(high)
+}
+
 // The number in two bytes at a place, the low one first.
 pub fn word_at(bytes: &[u8], at: usize) -> u16
     requires { ⌜ at + 2 ≤ length (now bytes) ⌝ }
     ensures { λ r. ⌜ r ≡ word (now (bytes .entry)) at ⌝ }
 {
-    widened(bytes[at]) + 256 * widened(bytes[at + 1])
+    word_of(bytes[at], bytes[at + 1])
 }
 
 // Where the line of a processor and a slot stands in the program.

@@ -5,7 +5,7 @@ use operands::Operand;
 use schedule::ModAnswer;
 ghost use mathlib.Core.Path.{_≡_};
 ghost use mathlib.Core.Bool.{true};
-ghost use Prim.Native.Nat.{ℕ, _+_, _*_, _<_, _≤_};
+ghost use Prim.Native.Nat.{ℕ, _+_, _<_, _≤_};
 ghost use lib.ListN.{length, getD};
 ghost use lib.Dec.{eqb};
 ghost use Rattle.logic.specs.Test.{all};
@@ -71,21 +71,13 @@ fn check_placements(table: &[u8], signals: u16, processors: u16, slots: u16) -> 
     find_unplaced(&counts, signals, processors, slots)
 }
 
-// The place of the line of a processor and a slot.
-fn line_place(processor: u16, slot: u16, slots: u16) -> usize
-    requires { ⌜ (processor < 16) × (slot < 256) × (slots ≤ 256) ⌝ }
-    ensures { λ r. ⌜ (r ≡ 85 * (1 + processor * slots + slot)) × (r ≤ 348160) ⌝ }
-{
-    85 * (1 + (processor as usize) * (slots as usize) + (slot as usize))
-}
-
 // The signal of a processor and a slot.
 fn signal_at(table: &[u8], processors: u16, slots: u16, processor: u16, slot: u16) -> u16
     requires { ⌜ Laid (now table) processors slots ⌝ }
     requires { ⌜ (processor < processors) × (slot < slots) ⌝ }
     ensures { λ r. ⌜ r ≡ moduleOf (now (table .entry)) .signal processor slot ⌝ }
 {
-    fields::number_at(table, line_place(processor, slot, slots) + 12)
+    fields::number_at(table, schedule::line_place(processor, slot, slots) + 12)
 }
 
 // The processor that it receives from.
@@ -94,7 +86,7 @@ fn sender_at(table: &[u8], processors: u16, slots: u16, processor: u16, slot: u1
     requires { ⌜ (processor < processors) × (slot < slots) ⌝ }
     ensures { λ r. ⌜ r ≡ moduleOf (now (table .entry)) .sender processor slot ⌝ }
 {
-    fields::number_at(table, line_place(processor, slot, slots) + 78) as u8
+    fields::number_at(table, schedule::line_place(processor, slot, slots) + 78) as u8
 }
 
 // What the pair at a place names.
@@ -114,7 +106,7 @@ fn send_at(table: &[u8], processors: u16, slots: u16, processor: u16, slot: u16)
     requires { ⌜ (processor < processors) × (slot < slots) ⌝ }
     ensures { λ r. ⌜ r ≡ sendNamed (moduleOf (now (table .entry))) processor slot ⌝ }
 {
-    named_at(table, line_place(processor, slot, slots) + 66)
+    named_at(table, schedule::line_place(processor, slot, slots) + 66)
 }
 
 // The line of a processor and a slot.
@@ -129,7 +121,7 @@ fn instruction_at(
     requires { ⌜ (processor < processors) × (slot < slots) ⌝ }
     ensures { λ r. ⌜ r ≡ instructionOf (moduleOf (now (table .entry))) processor slot ⌝ }
 {
-    let at = line_place(processor, slot, slots);
+    let at = schedule::line_place(processor, slot, slots);
     Instruction {
         signal: fields::number_at(table, at + 12),
         a1: named_at(table, at + 18),

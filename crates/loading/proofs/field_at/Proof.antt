@@ -9,8 +9,17 @@ use borrow.Author.Needs.{needs}
 use Rattle.loading.proofs.field_at.Statement.{statement}
 use Rattle.loading.proofs.field_at.Tie as tie
 
-line-at-requires : tie.Need-line-at-requires
-line-at-requires c κs = let s = c .before in (omega (arith, processors-range (s .pre .0), s .pre .1 .1), omega (arith, slots-range (s .pre .0), s .pre .1 .0, s .pre .1 .2), omega (arith, slots-range (s .pre .0), s .pre .1 .0))
+cast-line-place : tie.Need-cast-line-place
+cast-line-place c = let s = c .before in omega (arith, processors-range (s .pre .0), s .pre .1 .1)
+
+cast-line-place-2 : tie.Need-cast-line-place-2
+cast-line-place-2 c = let s = c .before in omega (arith, slots-range (s .pre .0), s .pre .1 .0, s .pre .1 .2)
+
+cast-line-place-3 : tie.Need-cast-line-place-3
+cast-line-place-3 c = let s = c .before in omega (arith, slots-range (s .pre .0), s .pre .1 .0)
+
+line-place-requires : tie.Need-line-place-requires
+line-place-requires c κs = let s = c .before in (omega (arith, processors-range (s .pre .0), s .pre .1 .1), omega (arith, slots-range (s .pre .0), s .pre .1 .0, s .pre .1 .2), omega (arith, slots-range (s .pre .0), s .pre .1 .0))
 
 mul-number-at : tie.Need-mul-number-at
 mul-number-at c = search needs
@@ -22,15 +31,24 @@ number-at-requires : tie.Need-number-at-requires
 number-at-requires c κs =
     let s = c .before .before in
     let low : s .args .slot < modSlots (s .args .table .now) = omega (arith, s .pre .1 .0, s .pre .1 .2) in
-    let here = c .line-at .ensures .0 ∙ ap (λ (n : ℕ). 85 * (1 + s .args .processor * n + s .args .slot)) (s .pre .1 .0) in
+    let here = c .line-place .ensures .0 ∙ ap (λ (n : ℕ). 85 * (1 + s .args .processor * n + s .args .slot)) (s .pre .1 .0) in
     field-there (s .pre .0) (s .pre .1 .1) low (s .args .column) _ (s .pre .1 .3) (ap (λ (x : ℕ). x + 6 * s .args .column) here)
 
 returns : tie.Need-returns
 returns c =
     let s = c .before .before .before in
-    let here = c .before .line-at .ensures .0 ∙ ap (λ (n : ℕ). 85 * (1 + s .args .processor * n + s .args .slot)) (s .pre .1 .0) in
+    let here = c .before .line-place .ensures .0 ∙ ap (λ (n : ℕ). 85 * (1 + s .args .processor * n + s .args .slot)) (s .pre .1 .0) in
     c .number-at .ensures ∙ ap (λ (x : ℕ). numberAt (s .args .table .now) (x + 6 * s .args .column)) here
 
 pub field-at-spec : {M : Type 1} → statement M
 field-at-spec =
-    tie.close (tie.spec line-at-requires mul-number-at add-number-at number-at-requires returns)
+    tie.close
+    (tie.spec
+    cast-line-place
+    cast-line-place-2
+    cast-line-place-3
+    line-place-requires
+    mul-number-at
+    add-number-at
+    number-at-requires
+    returns)

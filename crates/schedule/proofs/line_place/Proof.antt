@@ -1,8 +1,8 @@
 use native.Mathlib.Omega.{arith}
 use native.Mathlib.Nat.{mul-le-mul}
 use borrow.Author.Needs.{needs}
-use Rattle.wiring.proofs.line_place.Statement.{statement}
-use Rattle.wiring.proofs.line_place.Tie as tie
+use Rattle.schedule.proofs.line_place.Statement.{statement}
+use Rattle.schedule.proofs.line_place.Tie as tie
 
 mul-result : tie.Need-mul-result
 mul-result c = omega (arith, mul-le-mul {n₁ = c .args .processor} {m₁ = c .args .slots} {n₂ = 15} {m₂ = 256} (omega arith) (c .pre .2))
