@@ -22,29 +22,39 @@ use Rattle.stimulus.specs.declared.Cursor.{Cursor}
 use Rattle.stimulus.proofs.Steps.{GivenAt}
 use Rattle.listing.specs.Feeding.{Feeds, InHand, Fed}
 
--- a setting leaves a sound head, whether it is accepted or not
-set-sound : (panel : List ℕ) (h : Head) (s v : ℕ) → signalsIn panel ≤ 4096 → Sound panel h → Sound panel (commanded panel [] [] h (set s v) .head)
-set-sound panel h s v few good = go (inputIn panel s) refl (leb v 3) refl
+-- what holds of a head, and of it with an input's value replaced, holds after a setting, whether it is accepted or not
+set-either : (P : Head → Type 0) (panel : List ℕ) (h : Head) (s v : ℕ) → P h → (inputIn panel s ≡ true → v ≤ 3 → P (withValue h s v))
+    → P (commanded panel [] [] h (set s v) .head)
+set-either P panel h s v same changed = go (inputIn panel s) refl (leb v 3) refl
   where
-    to : {o : Outcome Memory} → commanded panel [] [] h (set s v) ≡ o → Sound panel (o .head) → Sound panel (commanded panel [] [] h (set s v) .head)
-    to e r = subst (λ (x : Outcome Memory). Sound panel (x .head)) (sym e) r
+    to : {o : Outcome Memory} → commanded panel [] [] h (set s v) ≡ o → P (o .head) → P (commanded panel [] [] h (set s v) .head)
+    to e r = subst (λ (x : Outcome Memory). P (x .head)) (sym e) r
 
-    go : (a : Bool) → inputIn panel s ≡ a → (b : Bool) → leb v 3 ≡ b → Sound panel (commanded panel [] [] h (set s v) .head)
-    go false e b f = to (set-no-signal panel [] [] h s v e) good
-    go true e false f = to (set-no-value panel [] [] h s v e (leb-false v 3 f)) good
-    go true e true f =
-        let known = input-signal panel s e in
-        to (set-done panel [] [] h s v e (leb-true v 3 f))
-        (with-value-sound panel h few good s v (signal-low panel s known) (signal-high panel s known) (leb-true v 3 f))
+    go : (a : Bool) → inputIn panel s ≡ a → (b : Bool) → leb v 3 ≡ b → P (commanded panel [] [] h (set s v) .head)
+    go false e b f = to (set-no-signal panel [] [] h s v e) same
+    go true e false f = to (set-no-value panel [] [] h s v e (leb-false v 3 f)) same
+    go true e true f = to (set-done panel [] [] h s v e (leb-true v 3 f)) (changed e (leb-true v 3 f))
+
+set-sound : (panel : List ℕ) (h : Head) (s v : ℕ) → signalsIn panel ≤ 4096 → Sound panel h → Sound panel (commanded panel [] [] h (set s v) .head)
+set-sound panel h s v few good =
+    set-either (Sound panel) panel h s v good
+    (λ e l.
+    let known = input-signal panel s e in
+    with-value-sound panel h few good s v (signal-low panel s known) (signal-high panel s known) l)
+
+-- a line of a later time sets an input of the panel
+line-input : {n : Network} {stim panel : List ℕ} → Feeds n stim panel → (line : ℕ) → line < stimCount stim → 1 ≤ stimTime stim line
+    → (s : ℕ) → s ≡ stimSignal stim line → inputIn panel s ≡ true
+line-input {n} {stim} {panel} feeds line l later s e =
+    let g = stim-right n stim (feeds .passes) .given line l in
+    subst (λ (x : ℕ). inputIn panel x ≡ true) (sym e) (feeds .inputs _ (g .signal) (g .later (λ q. omega arith)))
 
 -- the setting of a line of a later time is never refused
 pub setting-done : (n : Network) (stim panel program memory : List ℕ) (h : Head) → Feeds n stim panel → (line : ℕ) → line < stimCount stim
     → 1 ≤ stimTime stim line → (s v : ℕ) → s ≡ stimSignal stim line → v ≤ 3
     → commanded panel program memory h (set s v) .answer ≡ done
 setting-done n stim panel program memory h feeds line l later s v e few =
-    let g = stim-right n stim (feeds .passes) .given line l in
-    let is : inputIn panel s ≡ true = subst (λ (x : ℕ). inputIn panel x ≡ true) (sym e) (feeds .inputs _ (g .signal) (g .later (λ q. omega arith))) in
-    ap (λ (o : Outcome Memory). o .answer) (set-done panel program memory h s v is few)
+    ap (λ (o : Outcome Memory). o .answer) (set-done panel program memory h s v (line-input feeds line l later s e) few)
 
 pub fed-starts : (stim panel : List ℕ) (t line : ℕ) (h : Head) → line ≤ stimCount stim → Fed stim panel t line h h line
 fed-starts stim panel t line h few =
@@ -61,22 +71,10 @@ fed-starts stim panel t line h few =
 
 module _ {stim panel : List ℕ} {t line : ℕ} {first : Head} {h : Head} {at : ℕ} (fed : Fed stim panel t line first h at) {time signal value : ℕ} {next : Cursor}
     (g : GivenAt stim at time signal value next) (now : time ≡ t) where
-  -- a head that the setting leaves as it was, but for the values in hand
+  -- the setting changes nothing but values in hand
   set-keeps : (commanded panel [] [] h (set signal value) .head .finished ≡ h .finished)
       × (commanded panel [] [] h (set signal value) .head .watch ≡ h .watch)
-  set-keeps = go (inputIn panel signal) refl (leb value 3) refl
-    where
-      to : {o : Outcome Memory} → commanded panel [] [] h (set signal value) ≡ o → (o .head .finished ≡ h .finished) × (o .head .watch ≡ h .watch)
-          → (commanded panel [] [] h (set signal value) .head .finished ≡ h .finished)
-          × (commanded panel [] [] h (set signal value) .head .watch ≡ h .watch)
-      to e r = subst (λ (x : Outcome Memory). (x .head .finished ≡ h .finished) × (x .head .watch ≡ h .watch)) (sym e) r
-
-      go : (a : Bool) → inputIn panel signal ≡ a → (b : Bool) → leb value 3 ≡ b
-          → (commanded panel [] [] h (set signal value) .head .finished ≡ h .finished)
-          × (commanded panel [] [] h (set signal value) .head .watch ≡ h .watch)
-      go false e b f = to (set-no-signal panel [] [] h signal value e) (refl, refl)
-      go true e false f = to (set-no-value panel [] [] h signal value e (leb-false value 3 f)) (refl, refl)
-      go true e true f = to (set-done panel [] [] h signal value e (leb-true value 3 f)) (refl, refl)
+  set-keeps = set-either (λ (x : Head). (x .finished ≡ h .finished) × (x .watch ≡ h .watch)) panel h signal value (refl, refl) (λ e l. (refl, refl))
 
   -- the value in hand after an accepted setting is what one line more gives
   hand-more : (n : Network) → InHand n stim t at h → InHand n stim t (suc at) (withValue h signal value)
@@ -106,8 +104,7 @@ module _ {stim panel : List ℕ} {t line : ℕ} {first : Head} {h : Head} {at : 
           → InHand n stim t (suc at) (commanded panel [] [] h (set signal value) .head)
       hands n feeds l hand =
           let right = stim-right n stim (feeds .passes) .given at low in
-          let is : inputIn panel signal ≡ true =
-          subst (λ (x : ℕ). inputIn panel x ≡ true) (sym (g .signal-is)) (feeds .inputs _ (right .signal) (right .later (λ q. omega (arith, g .time-is, now)))) in
+          let is = line-input feeds at low (omega (arith, g .time-is, now)) signal (g .signal-is) in
           subst (λ (o : Outcome Memory). InHand n stim t (suc at) (o .head))
           (sym (set-done panel [] [] h signal value is (omega (arith, g .value-is, right .value))))
           (hand-more n (fed .hands n feeds l hand))
