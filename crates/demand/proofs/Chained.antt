@@ -43,7 +43,7 @@ module _ {f : Network} {g : Module} (ok : Scheduled f g) (few : g .processors �
   -- a call meets its contract: it does what the session over the files' machine does
   pub meets : (b : Buffers) (c : Lent) (a : Answer) (b′ : Buffers) → Good f g b → Post b c a b′
       → Met working fixed f g processor slot (Near g) b c a b′
-  meets b c a b′ good (own e q r) =
+  meets b c a b′ good (bits, own e w q r) =
       let o = tables-outcome ok processor slot placed (b .panel) (b .program) (good .holding) (memoryOf (b .memory)) (record { lengths = lengthsOf b; call = c .call }) (good .watching) in
       let told = outcome fixed f (lockstep f g processor slot) (headIn (b .panel)) (memoryOf (b .memory)) (record { lengths = lengthsOf b; call = c .call }) in
       let same = reply-right b (c .call) (good .lengths) (good .range) in
@@ -55,7 +55,7 @@ module _ {f : Network} {g : Module} (ok : Scheduled f g) (few : g .processors �
         memory = subst (λ (x : Buffers). Near g (memoryOf (x .memory)) (told .state)) (sym (r ∙ ap (λ (x : Reply). x .buffers) same))
             (near-trans (written-near (good .holding) few short (outcomeIn b (c .call) .state) (b .memory)) (o .state));
       })
-  meets b c a b′ good (other lent e l q r) =
+  meets b c a b′ good (bits, other lent e l w q r) =
       let wrong = outcome-wrong f (lockstep f g processor slot) (headIn (b .panel)) (memoryOf (b .memory)) c l in
       record {
         answer = q ∙ ap (λ (x : Reply). x .answer) (reply-40 lent (c .call) (ap (λ (x : Lengths). sameLengths x fixed) e ∙ l)) ∙ sym (ap (λ (x : Outcome Memory). x .answer) wrong);

@@ -46,9 +46,10 @@ use Rattle.session.proofs.Judged.{same-lengths}
 use Rattle.session.proofs.Replies.{reply-40, reply-right}
 use Rattle.kept.proofs.Heads.{with-head-finished, with-head-hand, with-head-watched, with-head-mask}
 use Rattle.kept.proofs.Replies.{reply-lengths, reply-ranged, reply-holding}
-use Rattle.demand.specs.Lending.{working, openedBy, Opens, Post, own, other, Throughout, EveryAnswer, numberOf}
+use Rattle.demand.specs.Lending.{working, openedBy, Opens, Post, own, other, Throughout, EveryAnswer, numberOf, BitsTell}
 use Rattle.demand.proofs.Chained.{Good, meets}
 use Rattle.demand.proofs.Refusals.{outcome-low}
+use Rattle.demand.proofs.Telling.{tells}
 
 -- equal lengths
 lengths-equal : (a b : Lengths) → a .panel ≡ b .panel → a .program ≡ b .program → a .memory ≡ b .memory → a ≡ b
@@ -97,8 +98,8 @@ module _ (f : Network) (g : Module) where
       record { lengths = reply-lengths b c (good .lengths); range = range; holding = holding; watching = watching-in f g (reply b c .buffers) range holding }
 
   stays : (b : Buffers) (c : Lent) (a : Answer) (b′ : Buffers) → Good f g b → Post b c a b′ → Good f g b′
-  stays b c a b′ good (own e q r) = subst (Good f g) (sym r) (reply-stays b (c .call) good)
-  stays b c a b′ good (other lent e l q r) = subst (Good f g) (sym r) good
+  stays b c a b′ good (bits, own e w q r) = subst (Good f g) (sym r) (reply-stays b (c .call) good)
+  stays b c a b′ good (bits, other lent e l w q r) = subst (Good f g) (sym r) good
 
   -- the buffers hold the files' network and module throughout, in range
   pub good-throughout : {b : Buffers} {cs : List Lent} → Good f g b → (t : Trace Post b cs) → Throughout (Good f g) t
@@ -108,10 +109,10 @@ module _ (f : Network) (g : Module) where
 
   -- 44 never comes
   answer-low : (b : Buffers) (c : Lent) (a : Answer) (b′ : Buffers) → Good f g b → Post b c a b′ → numberOf a ≤ 43
-  answer-low b c a b′ good (own e q r) =
+  answer-low b c a b′ good (bits, own e w q r) =
       subst (λ (x : Answer). numberOf x ≤ 43) (sym (q ∙ ap (λ (x : Reply). x .answer) (reply-right b (c .call) (good .lengths) (good .range))))
       (outcome-low (networkIn (b .panel) (b .program)) _ (headIn (b .panel)) _ (record { lengths = lengthsOf b; call = c .call }))
-  answer-low b c a b′ good (other lent e l q r) =
+  answer-low b c a b′ good (bits, other lent e l w q r) =
       subst (λ (x : Answer). numberOf x ≤ 43)
       (sym (q ∙ ap (λ (x : Reply). x .answer) (reply-40 lent (c .call) (ap (λ (x : Lengths). sameLengths x fixed) e ∙ l)))) forty
     where
@@ -139,9 +140,9 @@ module _ (f : Network) (g : Module) where
       go : Trace Post (reply b (c .call) .buffers) cs → Trace Post b cs → (t : Bool) → sameLengths (c .lengths) fixed ≡ t → Trace Post b (c ∷ cs)
       go rest same true e =
           next (reply b (c .call) .answer) (reply b (c .call) .buffers)
-          (own (lengths-same (lengthsOf b) fixed (good .lengths) ∙ sym (lengths-same (c .lengths) fixed e)) refl refl) rest
+          (_, own (lengths-same (lengthsOf b) fixed (good .lengths) ∙ sym (lengths-same (c .lengths) fixed e)) refl refl refl) rest
       go rest same false e =
-          next (reply (zeros (c .lengths)) (c .call) .answer) b (other (zeros (c .lengths)) (zeros-lengths (c .lengths)) e refl refl) same
+          next (reply (zeros (c .lengths)) (c .call) .answer) b (_, other (zeros (c .lengths)) (zeros-lengths (c .lengths)) e refl refl refl) same
 
 module _ (files : Files) (accepted : Accepted panelLimit files) where
   abbrev n : Network
@@ -241,6 +242,13 @@ module _ (files : Files) (accepted : Accepted panelLimit files) where
 
     pub session-never-44 : {cs : List Lent} (t : Trace Post left cs) → EveryAnswer (λ a. numberOf a ≤ 43) t
     session-never-44 t = never-44 n m (subst (Good n m) (sym left-opened) opened-good) t
+
+    -- The 64 bits handed back are those of the plain session's answers, and taken apart they are these answers
+    pub session-bits : {cs : List Lent} (t : Trace Post left cs) → BitsTell n (givenOf files) t (fresh (givenOf files)) []
+    unfolding fresh
+    session-bits t =
+        tells n m (processors-few files accepted) (slots-few files accepted) (givenOf files) t (fresh (givenOf files)) [] (omega arith) (session-good t)
+        (session-demand-3 t)
 
   -- The same without a trace: the calls' definition folded over any list of calls, from the opened files.
   pub folded-demand-3 : (cs : List Lent)
