@@ -5,3 +5,5 @@ pub mod Pieces
 pub mod Standing
 pub mod Opening
 pub mod Printed
+pub mod Inhabited
+pub mod Contracts

@@ -10,7 +10,7 @@ use lib.ListN.{length, take}
 use lib.Seq.{sets-eq, take-append-seam, take-all, length-take-le}
 use borrow.Author.Tests.{lt-ltb, le-ltb}
 use Rattle.writing.specs.Text.{lineText}
-use Rattle.model.specs.Refusal.{Check, pass, fail}
+use Rattle.model.specs.Refusal.{Check, pass, fail, first}
 use Rattle.model.specs.Files.{Files}
 use Rattle.model.specs.Netlist.{network, netCheck}
 use Rattle.model.specs.Schedule.{modProcessors, modSlots, modCheck}
@@ -18,7 +18,7 @@ use Rattle.model.specs.Stimulus.{stimCheck, endTime}
 use Rattle.model.specs.Acceptance.{panelLimit, networkOf, fileCheck, Accepted}
 use Rattle.model.specs.Listing.{valueAt, joined, listedFirst, listedCycle, listingOf, listing, printedFor, printed}
 use Rattle.model.specs.Demands.{Demand2}
-use Rattle.model.proofs.Refusals.{first-stays, first-second}
+use Rattle.model.proofs.Refusals.{pass-not-fail, first-stays, first-second}
 use Rattle.model.proofs.Accepted.{net-accepted, mod-accepted, stim-accepted, net-size, net-length, mod-processors, mod-slots, mod-length, stim-right}
 use Rattle.model.proofs.Demands.{joined-same, printed-demand-2}
 use Rattle.netlist.proofs.Prefix.{net-prefix}
@@ -71,15 +71,21 @@ module _ (files : Files) where
   piece-end = rw (le-ltb T T (omega arith))
 
   -- all pieces in order
-  pieces-listed : inOrder (piecesFrom (pieceAt files) 0 (pieceCount files)) ≡ listing files
+  pub pieces-joined : joined (pieceCount files) (pieceAt files) ≡ listing files
   unfolding joined listing listingOf
-  pieces-listed =
-      in-order (pieceAt files) (pieceCount files) 0
-      ∙ ap (λ (x : ℕ). joined x (pieceAt files)) (let e : 0 + (T + 2) ≡ suc (suc T) = omega arith in e)
+  pieces-joined =
+      ap (λ (x : ℕ). joined x (pieceAt files)) (let e : T + 2 ≡ suc (suc T) = omega arith in e)
       ∙ ap (λ (x : List ℕ). x ++ pieceAt files (suc T)) (joined-first (pieceAt files) T)
       ∙ ap (λ (x : List ℕ). pieceAt files 0 ++ x ++ pieceAt files (suc T)) (joined-same T _ _ piece-cycle)
       ∙ ap (λ (x : List ℕ). pieceAt files 0 ++ joined T (listedCycle (networkOf files .size) T (valueAt files)) ++ x) piece-end
       ∙ ap (λ (x : List ℕ). x ++ joined T (listedCycle (networkOf files .size) T (valueAt files)) ++ lineText (T ∷ 0 ∷ 0 ∷ [])) piece-first
+
+  pieces-listed : inOrder (piecesFrom (pieceAt files) 0 (pieceCount files)) ≡ listing files
+  unfolding joined
+  pieces-listed =
+      in-order (pieceAt files) (pieceCount files) 0
+      ∙ ap (λ (x : ℕ). joined x (pieceAt files)) (let e : 0 + (T + 2) ≡ T + 2 = omega arith in e)
+      ∙ pieces-joined
 
   -- the pieces that steps give are those of the files
   steps-give : {stim program : List ℕ} {l : Lister} {panel memory shown : List ℕ} {pieces : List (List ℕ)} (k : ℕ)
@@ -189,6 +195,28 @@ module _ (files : Files) where
       ap (λ (x : List ℕ). record { NET = x; MOD = read .MOD; STIM = read .STIM }) (net-whole (files .NET) (net-accepted panelLimit read accepted))
       ∙ ap (λ (x : List ℕ). record { NET = files .NET; MOD = x; STIM = read .STIM }) (mod-whole (read .NET) (files .MOD) (mod-accepted panelLimit read accepted))
       ∙ ap (λ (x : List ℕ). record { NET = files .NET; MOD = files .MOD; STIM = x }) (stim-whole (read .NET) (files .STIM) (stim-accepted panelLimit read accepted))
+
+  -- the bytes read are judged as the whole files, and the same is printed for them
+  pub read-check : fileCheck panelLimit read ≡ fileCheck panelLimit files
+  unfolding fileCheck
+  read-check = go (netCheck panelLimit (read .NET)) refl
+    where
+      go : (c : Check) → netCheck panelLimit (read .NET) ≡ c → fileCheck panelLimit read ≡ fileCheck panelLimit files
+      go pass e =
+          first-second (netCheck panelLimit (read .NET)) _ e
+          ∙ ap (λ (x : Check). first x (stimCheck (networkOf read) (read .STIM))) (mod-same e)
+          ∙ ap (first (modCheck (networkOf files) (files .MOD))) (stim-same e)
+          ∙ sym (first-second (netCheck panelLimit (files .NET)) _ (net-passes e))
+      go (fail number returned) e =
+          first-stays (netCheck panelLimit (read .NET)) _ e ∙ sym (net-check (λ q. pass-not-fail (sym q ∙ e)) ∙ e)
+
+  pub read-printed : printed panelLimit read ≡ printed panelLimit files
+  unfolding printed printedFor
+  read-printed = go (fileCheck panelLimit read) refl
+    where
+      go : (c : Check) → fileCheck panelLimit read ≡ c → printed panelLimit read ≡ printed panelLimit files
+      go pass e = ap (printed panelLimit) (read-whole e)
+      go (fail number returned) e = rw (e, sym read-check ∙ e)
 
   -- The theorem from end to end: whatever the program prints on the bytes that it reads is `printed` of the whole files
   pub program-prints : (text : List ℕ) → Prints read text → text ≡ printed panelLimit files

@@ -1,0 +1,245 @@
+-- For any files some text is printed, so that what demand 2 says of any program that prints such texts is said of one: the calls'
+-- contracts, one after the other, are met by the session's definitions.
+use Prim.Native.Nat.{ℕ, zero, suc, _+_, _<_, _≤_}
+use mathlib.Core.Path.{_≡_, refl, sym, subst, _∙_, ap}
+use mathlib.Core.List.{List, [], _∷_}
+use native.Mathlib.Omega.{arith}
+use native.Mathlib.Decide.{ℕ-discrete, decLt}
+use lib.ListN.{length, getD, take}
+use lib.Seq.{sets}
+use Rattle.logic.specs.Listed.{listed}
+use Rattle.logic.proofs.Listed.{listed-length, listed-at}
+use Rattle.writing.specs.Text.{lineText}
+use Rattle.model.specs.Refusal.{Check, pass, fail}
+use Rattle.model.specs.Files.{Files}
+use Rattle.model.specs.Netlist.{netCheck}
+use Rattle.model.specs.Schedule.{modCheck}
+use Rattle.model.specs.Stimulus.{stimTime, stimSignal, stimValue, stimCheck, stimCount, endTime}
+use Rattle.model.specs.Acceptance.{panelLimit, networkOf, fileCheck, Accepted}
+use Rattle.model.specs.Session.{Head}
+use Rattle.model.specs.Listing.{printed}
+use Rattle.model.specs.Demands.{Demand2}
+use Rattle.model.proofs.Refusals.{pass-not-fail, first-both}
+use Rattle.model.proofs.Accepted.{net-accepted, mod-accepted}
+use Rattle.memory.specs.Memory.{memoryOf}
+use Rattle.memory.specs.Memory.{held as heldIn}
+use Rattle.tables.specs.Panel.{signalsIn, processorsIn, slotsIn, handIn}
+use Rattle.machine.specs.Running.{cycleIn}
+use Rattle.loading.specs.Loaded.{panelOf, programOf, openingBytes}
+use Rattle.loading.proofs.Loaded.{loaded-head, loaded-tables}
+use Rattle.checks.specs.declared.FileAnswer.the-variants.{Refused}
+use Rattle.header.specs.declared.Session.{Session}
+use Rattle.header.specs.Header.{headIn, headOf, withHead}
+use Rattle.header.proofs.Heads.{same-head, past-end, decoded, own-head}
+use Rattle.stimulus.proofs.Steps.{GivenAt}
+use Rattle.listing.specs.declared.Lister.{Lister}
+use Rattle.listing.specs.declared.Piece.{Piece}
+use Rattle.listing.specs.Changes.{pieceLength, shownLength, notShown, valueHeld, changeLines, Shows}
+use Rattle.listing.specs.Feeding.{Passed, Fed}
+use Rattle.listing.specs.Cycling.{Right, cycled}
+use Rattle.listing.specs.Pieces.{pieceCount}
+use Rattle.listing.specs.Standing.{Stands, Gives}
+use Rattle.listing.specs.Printing.{firstBytes, inOrder, Steps, over, more, Prints, net-refused, mod-refused, stim-refused, listed as all-listed}
+use Rattle.listing.proofs.Feeding.{fed-starts, fed-more, Skipped, skipped-more}
+use Rattle.listing.proofs.Standing.{right-signals, stands-few, at-count, by-count, gives-last, gives-zeroth, gives-later, later-right}
+use Rattle.listing.proofs.Opening.{opened}
+use Rattle.listing.proofs.Printed.{program-prints, program-demand-2}
+
+-- a session that has a head
+abbrev sessionOf : Head → Session
+sessionOf h =
+    record {
+      finished = record { 0 = h .finished };
+      watch = record { signal = h .watch .signal; mask = h .watch .mask };
+      hand = listed 4097 (h .hand);
+    }
+
+session-head : (h : Head) → ((s : ℕ) → 4096 < s → h .hand s ≡ 0) → headOf (sessionOf h) ≡ h
+session-head h beyond = same-head _ _ _ _ _ _ _ _ refl hand refl refl
+  where
+    hand : (s : ℕ) → getD (listed 4097 (h .hand)) s 0 ≡ h .hand s
+    hand s = go (decLt 4096 s)
+      where
+        go : Dec (4096 < s) → getD (listed 4097 (h .hand)) s 0 ≡ h .hand s
+        go (yes q) = past-end (listed 4097 (h .hand)) s (omega (arith, listed-length 4097 (h .hand))) ∙ sym (beyond s q)
+        go (no d) = listed-at 4097 (h .hand) s (omega arith)
+
+-- a line of STIM before its end line
+line-given : (stim : List ℕ) (line : ℕ) → line < stimCount stim
+    → GivenAt stim line (stimTime stim line) (stimSignal stim line) (stimValue stim line) (record { line = line + 1 })
+line-given stim line l = record { before-end = l; time-is = refl; signal-is = refl; value-is = refl; follows = refl }
+
+-- the first line after those of time 0
+skips : {stim : List ℕ} {line : ℕ} (n : ℕ) → stimCount stim ≤ line + n → Skipped stim line → (later : ℕ) × Passed stim 0 later
+skips {stim} {line} zero b s = (line, record { few = s .few; earlier = s .earlier; later = λ l. absurd (omega arith) })
+skips {stim} {line} (suc n) b s = go (λ next. skips n (omega arith) next) (decLt line (stimCount stim)) (ℕ-discrete (stimTime stim line) 0)
+  where
+    go : (Skipped stim (line + 1) → (later : ℕ) × Passed stim 0 later) → Dec (line < stimCount stim) → Dec (stimTime stim line ≡ 0)
+        → (later : ℕ) × Passed stim 0 later
+    go rest (yes l) (yes q) = rest (skipped-more s (line-given stim line l) q)
+    go rest (yes l) (no d) = (line, record { few = s .few; earlier = s .earlier; later = λ l. omega arith })
+    go rest (no d) q = (line, record { few = s .few; earlier = s .earlier; later = λ l. absurd (d l) })
+
+-- the settings of a time
+record Settled (stim panel : List ℕ) (t line : ℕ) (before : Head) : Type 0 where
+  head : Head
+  next : ℕ
+  fed : Fed stim panel t line before head next
+  stops : next < stimCount stim → stimTime stim next ≡ t → ⊥
+
+settles : {stim panel : List ℕ} {t line : ℕ} {before h : Head} {at : ℕ} (n : ℕ) → stimCount stim ≤ at + n → Fed stim panel t line before h at
+    → Settled stim panel t line before
+settles {h = h} {at} zero b fed = record { head = h; next = at; fed = fed; stops = λ l q. absurd (omega arith) }
+settles {stim} {panel} {t} {line} {before} {h} {at} (suc n) b fed =
+    go (λ h′ fed. settles {h = h′} n (omega arith) fed) (decLt at (stimCount stim)) (ℕ-discrete (stimTime stim at) t)
+  where
+    go : ((h′ : Head) → Fed stim panel t line before h′ (at + 1) → Settled stim panel t line before) → Dec (at < stimCount stim)
+        → Dec (stimTime stim at ≡ t) → Settled stim panel t line before
+    go rest (yes l) (yes q) = rest _ (fed-more fed (line-given stim at l) q _ refl)
+    go rest (yes l) (no d) = record { head = h; next = at; fed = fed; stops = λ b q. d q }
+    go rest (no d) q = record { head = h; next = at; fed = fed; stops = λ b q. absurd (d b) }
+
+-- the values of the signals, shown
+shows : {panel program memory : List ℕ} → Right panel program memory → Shows (signalsIn panel) (valueHeld panel memory) (listed shownLength (valueHeld panel memory))
+shows {panel} {program} {memory} right =
+    record {
+      size = listed-length shownLength (valueHeld panel memory);
+      values-shown = λ s low high. listed-at shownLength (valueHeld panel memory) s (omega (arith, right-signals right));
+    }
+
+-- a step that meets the contract of `Lister::step`
+record Stepped (lent stim program : List ℕ) (l : Lister) (panel memory shown : List ℕ) : Type 0 where
+  piece : Piece
+  out : List ℕ
+  panel′ : List ℕ
+  memory′ : List ℕ
+  shown′ : List ℕ
+  gives : (files : Files) (k : ℕ) → Stands files k l stim panel program memory shown → Gives files k lent piece out stim panel′ program memory′ shown′
+
+module _ {files : Files} {k : ℕ} {l : Lister} {stim panel program memory shown : List ℕ} (s : Stands files k l stim panel program memory shown) (lent : List ℕ) where
+  steps-last : l .end .0 < l .pieces → Stepped lent stim program l panel memory shown
+  steps-last h =
+      let text = lineText (l .end .0 ∷ 0 ∷ 0 ∷ []) in
+      record {
+        piece = record { lister = record { session = l .session; cursor = l .cursor; end = l .end; pieces = l .pieces + 1 }; length = length text };
+        out = sets lent 0 text;
+        panel′ = panel;
+        memory′ = memory;
+        shown′ = shown;
+        gives = λ files k s. gives-last s h lent _ panel memory shown _ refl refl refl;
+      }
+
+  steps-first : l .pieces ≡ 0 → Stepped lent stim program l panel memory shown
+  steps-first e =
+      let text = changeLines (signalsIn panel) 0 (valueHeld panel memory) (λ x. getD shown x 0) in
+      record {
+        piece = record { lister = record { session = l .session; cursor = l .cursor; end = l .end; pieces = 1 }; length = length text };
+        out = sets lent 0 text;
+        panel′ = panel;
+        memory′ = memory;
+        shown′ = listed shownLength (valueHeld panel memory);
+        gives = λ files k z. by-count z (gives-zeroth (l .pieces) e (at-count z) lent _ _ _ refl refl (shows (z .right)) refl);
+      }
+
+  steps-later : (l .pieces ≡ 0 → ⊥) → l .pieces ≤ l .end .0 → Stepped lent stim program l panel memory shown
+  steps-later d h =
+      let settled : Settled stim panel (l .pieces) (l .cursor .line) (headOf (l .session)) =
+      settles (stimCount stim) (omega arith) (fed-starts stim panel (l .pieces) (l .cursor .line) (headOf (l .session)) (stands-few s)) in
+      let fresh = withHead (settled .head) panel in
+      let after = heldIn (processorsIn panel) (slotsIn panel) (cycleIn fresh program (memoryOf memory)) memory in
+      let text = changeLines (signalsIn fresh) (l .pieces) (valueHeld fresh after) (λ x. getD shown x 0) in
+      let sound = settled .fed .sound (right-signals (s .right)) (s .sound) in
+      record {
+        piece = record {
+          lister = record { session = sessionOf (cycled (settled .head)); cursor = record { line = settled .next }; end = l .end; pieces = l .pieces + 1 };
+          length = length text;
+        };
+        out = sets lent 0 text;
+        panel′ = fresh;
+        memory′ = after;
+        shown′ = listed shownLength (valueHeld fresh after);
+        gives = λ files k z.
+            by-count z
+            (gives-later (l .pieces) (at-count z) d h (settled .fed) (settled .stops) fresh refl after refl lent _ _ _ refl refl
+            (shows (later-right (l .pieces) (at-count z) d h (settled .fed) (settled .stops) after refl))
+            (session-head (cycled (settled .head)) (sound .beyond)) refl refl refl);
+      }
+
+  steps-once : Stepped lent stim program l panel memory shown
+  steps-once = go (decLt (l .end .0) (l .pieces)) (ℕ-discrete (l .pieces) 0)
+    where
+      go : Dec (l .end .0 < l .pieces) → Dec (l .pieces ≡ 0) → Stepped lent stim program l panel memory shown
+      go (yes h) e = steps-last h
+      go (no d) (yes e) = steps-first e
+      go (no d) (no e) = steps-later e (omega arith)
+
+-- so many steps
+abbrev lent : List ℕ
+lent = listed pieceLength (λ a. 0)
+
+module _ {files : Files} where
+  steps : (n : ℕ) {k : ℕ} {l : Lister} {stim panel program memory shown : List ℕ} → Stands files k l stim panel program memory shown
+      → k + suc n ≡ pieceCount files → (pieces : List (List ℕ)) × Steps stim program l panel memory shown pieces × (length pieces ≡ suc n)
+  steps zero s e =
+      let one = steps-once s lent in (
+        take (one .piece .length) (one .out) ∷ [],
+        more lent (one .piece) (one .out) (one .panel′) (one .memory′) (one .shown′) (listed-length pieceLength (λ a. 0)) (one .gives) over,
+        refl,
+      )
+  steps (suc n) {k} s e =
+      let one = steps-once s lent in
+      let rest = steps n (one .gives files k s .next (omega arith)) (omega arith) in (
+        take (one .piece .length) (one .out) ∷ rest .0,
+        more lent (one .piece) (one .out) (one .panel′) (one .memory′) (one .shown′) (listed-length pieceLength (λ a. 0)) (one .gives) (rest .1),
+        ap suc (rest .2),
+      )
+
+-- the listing of accepted files, opened
+module _ (files : Files) (accepted : Accepted panelLimit files) where
+  abbrev panel : List ℕ
+  panel = panelOf (files .NET) (files .MOD) (files .STIM)
+
+  first-later : (later : ℕ) × Passed (files .STIM) 0 later
+  first-later = skips {line = 0} (stimCount (files .STIM)) (omega arith) (record { few = omega arith; earlier = λ k l. absurd (omega arith) })
+
+  abbrev lister : Lister
+  lister = record { session = sessionOf (headIn panel); cursor = record { line = first-later .0 }; end = record { 0 = endTime (files .STIM) }; pieces = 0 }
+
+  opens : Stands files 0 lister (files .STIM) panel (programOf (files .MOD)) (openingBytes (files .NET) (files .MOD) (files .STIM)) (listed shownLength (λ a. notShown))
+  opens =
+      let net = net-accepted panelLimit files accepted in
+      let table = mod-accepted panelLimit files accepted in
+      let size = loaded-tables (files .NET) (files .MOD) net table (files .STIM) .panel-size in
+      let head = loaded-head (files .NET) (files .MOD) net table (files .STIM) in
+      opened files accepted lister panel (programOf (files .MOD)) (openingBytes (files .NET) (files .MOD) (files .STIM)) (listed shownLength (λ a. notShown))
+      refl refl refl
+      (decoded panel (listed 4097 (handIn panel)) size refl _ _ _ refl refl refl)
+      (own-head panel size (omega (arith, head .0)) (omega (arith, head .1)))
+      (first-later .1) refl refl refl
+
+  lists : (text : List ℕ) × Prints files text
+  lists =
+      let given = steps (suc (endTime (files .STIM))) opens (omega arith) in
+      (inOrder (given .0), all-listed accepted opens (given .1) (given .2 ∙ omega arith))
+
+-- For any files that were read some text is printed
+pub prints-some : (read : Files) → (text : List ℕ) × Prints read text
+unfolding fileCheck
+prints-some read = go (netCheck panelLimit (read .NET)) refl (modCheck (networkOf read) (read .MOD)) refl (stimCheck (networkOf read) (read .STIM)) refl
+  where
+    go : (a : Check) → netCheck panelLimit (read .NET) ≡ a → (b : Check) → modCheck (networkOf read) (read .MOD) ≡ b
+        → (c : Check) → stimCheck (networkOf read) (read .STIM) ≡ c → (text : List ℕ) × Prints read text
+    go (fail number returned) p b q c r = (_, net-refused (Refused number returned) (sym p) (λ e. pass-not-fail (sym e ∙ p)))
+    go pass p (fail number returned) q c r = (_, mod-refused p (Refused number returned) (sym q) (λ e. pass-not-fail (sym e ∙ q)))
+    go pass p pass q (fail number returned) r = (_, stim-refused p q (Refused number returned) (sym r) (λ e. pass-not-fail (sym e ∙ r)))
+    go pass p pass q pass r = lists read (first-both _ _ p (first-both _ _ q r))
+
+-- and it is `printed` of the files
+pub prints-printed : (files : Files) → Prints (firstBytes files) (printed panelLimit files)
+prints-printed files =
+    let some = prints-some (firstBytes files) in
+    subst (Prints (firstBytes files)) (program-prints files (some .0) (some .1)) (some .1)
+
+-- so that demand 2 is said of some program
+pub some-demand-2 : Demand2 panelLimit (printed panelLimit)
+some-demand-2 = program-demand-2 (printed panelLimit) prints-printed
