@@ -1,16 +1,24 @@
--- Files that each check accepts are accepted.
+-- Files that each check accepts are accepted, and a check that does not accept refuses.
 use Prim.Native.Nat.{ℕ}
-use mathlib.Core.Path.{_≡_, subst, _∙_}
-use mathlib.Core.List.{List}
+use mathlib.Core.Path.{_≡_, refl, sym, subst, _∙_}
+use mathlib.Core.List.{List, [], _∷_}
+use mathlib.Core.Logic.{inl, inr}
+use native.Mathlib.Omega.{arith}
+use denote.Enum.Declared.{tagOf}
+use types.Run.{OneOf}
 use Rattle.model.specs.Refusal.{pass}
 use Rattle.model.specs.Netlist.{network, netCheck}
 use Rattle.model.specs.Schedule.{modCheck}
 use Rattle.model.specs.Stimulus.{stimCount}
 use Rattle.model.specs.Acceptance.{panelLimit, fileCheck, Accepted}
-use Rattle.model.proofs.Refusals.{first-second}
+use Rattle.model.proofs.Refusals.{pass-not-fail, first-second}
+use Rattle.schedule.specs.declared.ModAnswer.{ModAnswer}
+use Rattle.schedule.specs.declared.ModAnswer.the-variants.{Accepted as Sized, Misformed, Layout, Placement, Send, Reception, WrongOperand}
+use Rattle.schedule.specs.Answer.{modRefusal}
 use Rattle.stimulus.specs.declared.StimAnswer.{StimAnswer}
-use Rattle.stimulus.specs.declared.StimAnswer.the-variants.{Accepted as Counted}
-use Rattle.stimulus.specs.Answer.{Answers}
+use Rattle.stimulus.specs.declared.StimAnswer.the-variants.{Accepted as Counted, Misformed as StimMisformed, Layout as StimLayout, NotInput}
+use Rattle.stimulus.specs.Answer.{stimRefusal, Answers}
+use Rattle.stimulus.proofs.StimAnswer.{the-type}
 use Rattle.stimulus.proofs.Steps.{accepted-passes}
 
 pub all-accepted : (net table stim : List ℕ) → netCheck 4096 net ≡ pass → modCheck (network net) table ≡ pass
@@ -20,3 +28,23 @@ unfolding fileCheck
 all-accepted net table stim n m r lines e answers =
     let told = accepted-passes (network net) stim lines (subst (λ (x : StimAnswer). Answers (network net) stim x) e answers) in
     (first-second (netCheck 4096 net) _ n ∙ first-second (modCheck (network net) table) _ m ∙ told .0, told .1)
+
+pub mod-refuses : (r : ModAnswer) → ((p c : ℕ) → r ≡ Sized p c → ⊥) → modRefusal r ≡ pass → ⊥
+mod-refuses (Sized p c) other e = other p c refl
+mod-refuses (Misformed line) other e = pass-not-fail (sym e)
+mod-refuses (Layout line) other e = pass-not-fail (sym e)
+mod-refuses (Placement signal) other e = pass-not-fail (sym e)
+mod-refuses (Send line) other e = pass-not-fail (sym e)
+mod-refuses (Reception line) other e = pass-not-fail (sym e)
+mod-refuses (WrongOperand line) other e = pass-not-fail (sym e)
+
+pub stim-refuses : (r : StimAnswer) → OneOf (1 ∷ 2 ∷ 3 ∷ []) (tagOf the-type r) → stimRefusal r ≡ pass → ⊥
+stim-refuses (Counted lines) h e = go h
+  where
+    go : OneOf (1 ∷ 2 ∷ 3 ∷ []) 0 → ⊥
+    go (inl e) = omega arith
+    go (inr (inl e)) = omega arith
+    go (inr (inr e)) = omega arith
+stim-refuses (StimMisformed line) h e = pass-not-fail (sym e)
+stim-refuses (StimLayout line) h e = pass-not-fail (sym e)
+stim-refuses (NotInput line) h e = pass-not-fail (sym e)

@@ -3,10 +3,13 @@
 
 ghost use mathlib.Core.Path.{_≡_};
 ghost use Prim.Native.Nat.{_≤_};
-ghost use lib.ListN.{length};
-ghost use Rattle.model.specs.Acceptance.{panelLimit, Accepted};
+ghost use lib.ListN.{length, take};
+ghost use Rattle.model.specs.Refusal.{pass};
+ghost use Rattle.model.specs.Acceptance.{panelLimit, fileCheck, Accepted};
 ghost use Rattle.model.specs.Stimulus.{stimCount};
+ghost use Rattle.checks.specs.Answer.{fileRefusal};
 ghost use Rattle.cavundir.specs.Got.{Brought};
+ghost use Rattle.cavundir.specs.Handing.{partAt, Handing};
 use checks::FileAnswer;
 use libc::STDOUT_FILENO;
 use netlist::NetAnswer;
@@ -99,17 +102,39 @@ fn read_file(name: &[u8], bytes: &mut [u8]) -> usize
     count
 }
 
+// How many parts of what is printed were handed over, and whether the last of them could not be written.
+struct Handed {
+    parts: u32,
+    stopped: bool,
+}
+
+// The one writer. It is lent the bytes read of each file, and takes no other bytes than the k-th part of what is printed for them.
+fn put(net: &[u8], table: &[u8], stim: &[u8], k: u32, part: &[u8]) -> bool
+    requires { ⌜ now part ≡ partAt (record { NET = now net; MOD = now table; STIM = now stim }) k ⌝ }
+{
+    io::write_all(STDOUT_FILENO, part)
+}
+
 // "prints one line of two fields, number and returned value".
-fn print_refusal(answer: FileAnswer) {
+fn print_refusal(net: &[u8], table: &[u8], stim: &[u8], answer: FileAnswer) -> Handed
+    requires { ⌜ fileRefusal answer ≡ fileCheck panelLimit (record { NET = now net; MOD = now table; STIM = now stim }) ⌝ }
+    requires { ⌜ (fileRefusal answer ≡ pass → ⊥) ⌝ }
+    ensures { λ r. ⌜ Handing (record { NET = now (net .entry); MOD = now (table .entry); STIM = now (stim .entry) }) r ⌝ }
+{
     let mut line = [0u8; 13];
     let length = listing::write_refusal(answer, &mut line);
-    io::write_all(STDOUT_FILENO, &line[..length]);
+    let written = put(net, table, stim, 0, &line[..length]);
+    Handed {
+        parts: 1,
+        stopped: !written,
+    }
 }
 
 // The listing, piece by piece, until one can not be written.
-fn print_listing(net: &[u8], table: &[u8], stim: &[u8], lines: u16)
+fn print_listing(net: &[u8], table: &[u8], stim: &[u8], lines: u16) -> Handed
     requires { ⌜ Accepted panelLimit (record { NET = now net; MOD = now table; STIM = now stim }) ⌝ }
     requires { ⌜ lines ≡ stimCount (now stim) ⌝ }
+    ensures { λ r. ⌜ Handing (record { NET = now (net .entry); MOD = now (table .entry); STIM = now (stim .entry) }) r ⌝ }
 {
     let mut panel = panel_buffer();
     let mut program = program_buffer();
@@ -136,35 +161,93 @@ fn print_listing(net: &[u8], table: &[u8], stim: &[u8], lines: u16)
             &mut shown,
             &mut piece,
         );
-        if !io::write_all(STDOUT_FILENO, &piece[..next.length]) {
-            return;
+        let k = lister.pieces;
+        if !put(net, table, stim, k, &piece[..next.length]) {
+            return Handed {
+                parts: k + 1,
+                stopped: true,
+            };
         }
         lister = next.lister;
     }
+    Handed {
+        parts: count,
+        stopped: false,
+    }
+}
+
+// What was read of each file, and what was handed over.
+struct Ran {
+    net: usize,
+    table: usize,
+    stim: usize,
+    handed: Handed,
 }
 
 // "Order: NET, MOD, STIM": each is checked before the next is read.
-fn main() {
-    let mut net = net_buffer();
-    let n = read_file(b"NET", &mut net);
+fn run(net: &mut [u8], table: &mut [u8], stim: &mut [u8]) -> Ran
+    ensures { λ r. ⌜ Handing (record { NET = take (r .net) (now (net .exit)); MOD = take (r .table) (now (table .exit)); STIM = take (r .stim) (now (stim .exit)) }) (r .handed) ⌝ }
+{
+    let n = read_file(b"NET", net);
     let first = netlist::check_net(&net[..n], 4096);
     let NetAnswer::Accepted(_) = first else {
-        print_refusal(checks::net_answer(first));
-        return;
+        let refused = print_refusal(
+            &net[..n],
+            &table[..0],
+            &stim[..0],
+            checks::net_answer(first),
+        );
+        return Ran {
+            net: n,
+            table: 0,
+            stim: 0,
+            handed: refused,
+        };
     };
-    let mut table = mod_buffer();
-    let m = read_file(b"MOD", &mut table);
+    let m = read_file(b"MOD", table);
     let second = wiring::check_mod(&net[..n], &table[..m]);
     let ModAnswer::Accepted(_, _) = second else {
-        print_refusal(checks::mod_answer(second));
-        return;
+        let refused = print_refusal(
+            &net[..n],
+            &table[..m],
+            &stim[..0],
+            checks::mod_answer(second),
+        );
+        return Ran {
+            net: n,
+            table: m,
+            stim: 0,
+            handed: refused,
+        };
     };
-    let mut stim = stim_buffer();
-    let k = read_file(b"STIM", &mut stim);
+    let k = read_file(b"STIM", stim);
     let third = stimulus::check_stim(&net[..n], &stim[..k]);
     let StimAnswer::Accepted(lines) = third else {
-        print_refusal(checks::stim_answer(third));
-        return;
+        let refused = print_refusal(
+            &net[..n],
+            &table[..m],
+            &stim[..k],
+            checks::stim_answer(third),
+        );
+        return Ran {
+            net: n,
+            table: m,
+            stim: k,
+            handed: refused,
+        };
     };
-    print_listing(&net[..n], &table[..m], &stim[..k], lines);
+    let listed = print_listing(&net[..n], &table[..m], &stim[..k], lines);
+    Ran {
+        net: n,
+        table: m,
+        stim: k,
+        handed: listed,
+    }
+}
+
+fn main() {
+    let mut net = net_buffer();
+    let mut table = mod_buffer();
+    let mut stim = stim_buffer();
+    run(&mut net, &mut table, &mut stim);
 }

@@ -9,7 +9,7 @@ use Rattle.memory.specs.Memory.{memoryLength}
 use Rattle.tables.specs.Panel.{panelLength}
 use Rattle.tables.specs.Program.{programLength}
 use Rattle.listing.specs.Changes.{pieceLength}
-use Rattle.cavundir.proofs.Printing.{Prints, prints-starts, standing, gives-less, prints-more, gives-room}
+use Rattle.cavundir.proofs.Printing.{Prints, prints-starts, handed-all, standing, handed-some, pieces-low, gives-less, gives-room, gives-part, prints-more}
 use Rattle.cavundir.proofs.print_listing.Statement.{statement}
 use Rattle.cavundir.proofs.print_listing.Tie as tie
 
@@ -82,14 +82,17 @@ step-requires c κs = (standing (c .before .before .before .before .before .befo
 array-share-prefix-piece : tie.Need-array-share-prefix-piece Inv-loop μ-loop
 array-share-prefix-piece c = gives-room (c .before .before .before .before .before .before .before .before .before .before .before .before .loop .inv) (c .before .before .before .before .before .before .before .before .before .before .if1 .taken) (c .before .before .before .before .step .ensures)
 
-slice-aggregate-write-all : tie.Need-slice-aggregate-write-all Inv-loop μ-loop
-slice-aggregate-write-all c = sym (length-take-le _ _ (gives-room (c .before .before .before .before .before .before .before .before .before .before .before .before .before .loop .inv) (c .before .before .before .before .before .before .before .before .before .before .before .if1 .taken) (c .before .before .before .before .before .step .ensures)))
+slice-aggregate-put : tie.Need-slice-aggregate-put Inv-loop μ-loop
+slice-aggregate-put c = sym (length-take-le _ _ (gives-room (c .before .before .before .before .before .before .before .before .before .before .before .before .before .loop .inv) (c .before .before .before .before .before .before .before .before .before .before .before .if1 .taken) (c .before .before .before .before .before .step .ensures)))
 
-write-all-requires : tie.Need-write-all-requires Inv-loop μ-loop
-write-all-requires c κs = search needs
+put-requires : tie.Need-put-requires Inv-loop μ-loop
+put-requires c κs = gives-part (c .before .before .before .before .before .before .before .before .before .before .before .before .before .loop .inv) (c .before .before .before .before .before .before .before .before .before .before .before .if1 .taken) (c .before .before .before .before .before .step .ensures)
+
+add-t40 : tie.Need-add-t40 Inv-loop μ-loop
+add-t40 c = record { fits = omega (arith, pieces-low (c .before .before .before .before .before .before .before .before .before .before .before .before .before .before .before .loop .inv) (c .before .before .before .before .before .before .before .before .before .before .before .before .before .if1 .taken)) }
 
 returns : tie.Need-returns Inv-loop μ-loop
-returns c = search needs
+returns c = handed-some (c .before .before .before .before .before .before .before .before .before .before .before .before .before .before .before .loop .inv) (c .before .before .before .before .before .before .before .before .before .before .before .before .before .if1 .taken)
 
 loop-less : tie.Need-loop-less Inv-loop μ-loop
 loop-less c =
@@ -101,7 +104,7 @@ loop-again : tie.Need-loop-again Inv-loop μ-loop
 loop-again c = prints-more (c .before .before .before .before .before .before .before .before .before .before .before .before .before .before .before .before .loop .inv) (c .before .before .before .before .before .before .before .before .before .before .before .before .before .before .if1 .taken) (c .before .before .before .before .before .before .before .before .step .ensures)
 
 returns-2 : tie.Need-returns-2 Inv-loop μ-loop
-returns-2 c = search needs
+returns-2 c = handed-all (c .before .before .loop .inv)
 
 pub print-listing-spec : {M : Type 1} → statement M
 print-listing-spec =
@@ -127,8 +130,9 @@ print-listing-spec =
     slice-aggregate-step-5
     step-requires
     array-share-prefix-piece
-    slice-aggregate-write-all
-    write-all-requires
+    slice-aggregate-put
+    put-requires
+    add-t40
     returns
     loop-less
     loop-again
