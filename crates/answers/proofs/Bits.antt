@@ -1,19 +1,14 @@
--- An answer's 64 bits, taken apart as a caller does: putting together and taking apart are inverse, and so equal bits are equal answers.
--- The kind of the call is known to the caller; answers of different kinds share bits (a read of 3, and a run of 3 cycles).
+-- Putting an answer's 64 bits together and taking them apart are inverse, and so equal bits are equal answers.
 use Prim.Native.Nat.{ℕ, _+_, _*_, _/_, _%_, _^_, _<_, _≤_}
 use mathlib.Core.Path.{_≡_, refl, sym, _∙_, ap}
 use mathlib.Core.Bool.{Bool, true, false}
 use native.Mathlib.Omega.{arith}
 use lib.Dec.{eqb}
 use borrow.Author.Tests.{eq-eqb, ne-eqb}
-use Rattle.logic.specs.Choice.{if_then_else_}
 use Rattle.logic.specs.Test.{one}
 use Rattle.model.specs.Session.{Answer, refused, done, value, ran}
 use Rattle.answers.specs.Answers.{answerBits}
-
--- set and watch, read, run
-pub data Kind : Type 0 where
-  setting reading running : Kind
+use Rattle.answers.specs.Apart.{Kind, setting, reading, running, accepted, apart}
 
 -- the answers of a kind of call, with numbers that have their bits
 pub data AnswerOf : Kind → Answer → Type 0 where
@@ -21,28 +16,6 @@ pub data AnswerOf : Kind → Answer → Type 0 where
   nothing : AnswerOf setting done
   read-value : {v : ℕ} → v < 4294967296 → AnswerOf reading (value v)
   cycles : {count : ℕ} {stopped : Bool} → count < 65536 → AnswerOf running (ran count stopped)
-
--- bits 56 to 63, bits 0 to 31, bits 0 to 15, bit 16
-abbrev pub numberIn : ℕ → ℕ
-numberIn bits = bits / 2 ^ 56
-
-abbrev pub returnedIn : ℕ → ℕ
-returnedIn bits = bits % 2 ^ 32
-
-abbrev pub countIn : ℕ → ℕ
-countIn bits = bits % 65536
-
-abbrev pub stoppedIn : ℕ → Bool
-stoppedIn bits = eqb (bits / 65536 % 2) 1
-
--- what a call that was not refused answers
-abbrev pub accepted : Kind → ℕ → Answer
-accepted setting bits = done
-accepted reading bits = value (returnedIn bits)
-accepted running bits = ran (countIn bits) (stoppedIn bits)
-
-unfoldable pub apart : Kind → ℕ → Answer
-apart k bits = if eqb (numberIn bits) 0 then accepted k bits else refused (numberIn bits) (returnedIn bits)
 
 not-refused : (k : Kind) (bits : ℕ) → bits < 2 ^ 56 → apart k bits ≡ accepted k bits
 unfolding apart

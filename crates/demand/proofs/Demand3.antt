@@ -13,16 +13,16 @@ use Rattle.model.specs.Refusal.{Check, pass, first, unless}
 use Rattle.model.specs.Files.{Files}
 use Rattle.model.specs.Network.{Network, Signal}
 use Rattle.model.specs.Netlist.{network}
-use Rattle.model.specs.Value.{start}
+use Rattle.model.specs.Value.{start, FollowsAlways}
 use Rattle.model.specs.Module.{Module}
 use Rattle.model.specs.Machine.{opening}
 use Rattle.model.specs.Schedule.{modProcessors, modSlots, moduleOf}
-use Rattle.model.specs.Session.{Head, fresh, Call, Lengths, Lent, sameLengths, Answer, done}
+use Rattle.model.specs.Session.{Head, fresh, Call, Lengths, Lent, sameLengths, Answer, done, plainAfter}
 use Rattle.model.specs.Acceptance.{panelLimit, networkOf, scheduleOf, givenOf, Accepted}
 use Rattle.model.specs.Demands.{Trace, end, next, Demand3}
 use Rattle.model.proofs.Machine.{Near}
 use Rattle.model.proofs.Session.{Like}
-use Rattle.model.proofs.Keeping.{kept-places, kept-near, keeps}
+use Rattle.model.proofs.Keeping.{kept-table, kept-near, keeps}
 use Rattle.model.proofs.Accepted.{net-accepted, mod-accepted, net-size}
 use Rattle.model.proofs.Demands.{accepted-formed, accepted-acyclic, accepted-scheduled, placeOf, placed-there}
 use Rattle.model.proofs.Traces.{demand-3}
@@ -41,15 +41,15 @@ use Rattle.opening.proofs.Opened.{opened-ranged}
 use Rattle.engine.proofs.Valued.{processors-few, slots-few, opening-holds}
 use Rattle.header.specs.Header.{headIn, withHead}
 use Rattle.lengths.specs.Lengths.{fixed}
-use Rattle.session.specs.Reply.{Buffers, buffersOf, lengthsOf, Reply, reply}
+use Rattle.session.specs.Reply.{Buffers, buffersOf, lengthsOf, reply}
 use Rattle.session.proofs.Judged.{same-lengths}
-use Rattle.session.proofs.Replies.{reply-40, reply-right}
+use Rattle.session.proofs.Replies.{reply-answer}
 use Rattle.kept.proofs.Heads.{with-head-finished, with-head-hand, with-head-watched, with-head-mask}
 use Rattle.kept.proofs.Replies.{reply-lengths, reply-ranged, reply-holding}
-use Rattle.demand.specs.Lending.{working, openedBy, Opens, Post, own, other, Throughout, EveryAnswer, numberOf, BitsTell}
+use Rattle.demand.specs.Lending.{working, openedBy, Opens, Meets, Answered, own, other, Post, Throughout, EveryCall, numberOf, Every32}
 use Rattle.demand.proofs.Chained.{Good, meets}
-use Rattle.demand.proofs.Refusals.{outcome-low}
-use Rattle.demand.proofs.Telling.{tells}
+use Rattle.demand.proofs.Refusals.{command-low}
+use Rattle.demand.proofs.Telling.{reply-few, own-taken, other-bits, other-taken, other-stays}
 
 -- equal lengths
 lengths-equal : (a b : Lengths) → a .panel ≡ b .panel → a .program ≡ b .program → a .memory ≡ b .memory → a ≡ b
@@ -95,11 +95,26 @@ module _ (f : Network) (g : Module) where
   reply-stays b c good =
       let range = reply-ranged b c (good .lengths) (good .range) in
       let holding = reply-holding b c (good .lengths) (good .range) (good .holding) in
-      record { lengths = reply-lengths b c (good .lengths); range = range; holding = holding; watching = watching-in f g (reply b c .buffers) range holding }
+      record {
+        lengths = reply-lengths b c (good .lengths);
+        range = range;
+        holding = holding;
+        watching = watching-in f g (reply b c .buffers) range holding;
+        few = reply-few b (good .lengths) (good .range) (good .few) c;
+      }
+
+  -- the buffers of a call with a wrong length stay
+  other-same : {b b′ lent left : Buffers} {c : Lent} {bits : ℕ} (around : Buffers → Buffers) → lengthsOf lent ≡ c .lengths
+      → sameLengths (c .lengths) fixed ≡ false → Meets lent (c .call) bits left → b ≡ around lent → b′ ≡ around left → b′ ≡ b
+  other-same {lent = lent} {left = left} {c = c} {bits = bits} around e l met here there =
+      there ∙ ap around (other-stays lent (c .call) (ap (λ (x : Lengths). sameLengths x fixed) e ∙ l) bits left met) ∙ sym here
 
   stays : (b : Buffers) (c : Lent) (a : Answer) (b′ : Buffers) → Good f g b → Post b c a b′ → Good f g b′
-  stays b c a b′ good (bits, own e w q r) = subst (Good f g) (sym r) (reply-stays b (c .call) good)
-  stays b c a b′ good (bits, other lent e l w q r) = subst (Good f g) (sym r) good
+  stays b c a b′ good p = go (p .answered)
+    where
+      go : Answered b c (p .bits) b′ → Good f g b′
+      go (own e met) = subst (Good f g) (sym (met .leaves)) (reply-stays b (c .call) good)
+      go (other lent left around e l met here there) = subst (Good f g) (sym (other-same around e l met here there)) good
 
   -- the buffers hold the files' network and module throughout, in range
   pub good-throughout : {b : Buffers} {cs : List Lent} → Good f g b → (t : Trace Post b cs) → Throughout (Good f g) t
@@ -107,22 +122,43 @@ module _ (f : Network) (g : Module) where
   good-throughout good end = good
   good-throughout good (next {b} {c} a b′ p rest) = (good, good-throughout (stays b c a b′ good p) rest)
 
+  -- what holds of every call on good buffers holds of every call of a list
+  pub every-call : (P : Lent → ℕ → Answer → Type 0)
+      → ((b : Buffers) (c : Lent) (a : Answer) (b′ : Buffers) → Good f g b → (p : Post b c a b′) → P c (p .bits) a)
+      → {b : Buffers} {cs : List Lent} → Good f g b → (t : Trace Post b cs) → EveryCall P t
+  unfolding EveryCall
+  every-call P holds good end = tt
+  every-call P holds good (next {b} {c} a b′ p rest) = (holds b c a b′ good p, every-call P holds (stays b c a b′ good p) rest)
+
   -- 44 never comes
   answer-low : (b : Buffers) (c : Lent) (a : Answer) (b′ : Buffers) → Good f g b → Post b c a b′ → numberOf a ≤ 43
-  answer-low b c a b′ good (bits, own e w q r) =
-      subst (λ (x : Answer). numberOf x ≤ 43) (sym (q ∙ ap (λ (x : Reply). x .answer) (reply-right b (c .call) (good .lengths) (good .range))))
-      (outcome-low (networkIn (b .panel) (b .program)) _ (headIn (b .panel)) _ (record { lengths = lengthsOf b; call = c .call }))
-  answer-low b c a b′ good (bits, other lent e l w q r) =
-      subst (λ (x : Answer). numberOf x ≤ 43)
-      (sym (q ∙ ap (λ (x : Reply). x .answer) (reply-40 lent (c .call) (ap (λ (x : Lengths). sameLengths x fixed) e ∙ l)))) forty
+  answer-low b c a b′ good p = go (p .answered)
     where
       forty : 40 ≤ 43
       forty = omega arith
 
-  pub never-44 : {b : Buffers} {cs : List Lent} → Good f g b → (t : Trace Post b cs) → EveryAnswer (λ a. numberOf a ≤ 43) t
-  unfolding EveryAnswer
-  never-44 good end = tt
-  never-44 good (next {b} {c} a b′ p rest) = (answer-low b c a b′ good p, never-44 (stays b c a b′ good p) rest)
+      go : Answered b c (p .bits) b′ → numberOf a ≤ 43
+      go (own e met) =
+          subst (λ (x : Answer). numberOf x ≤ 43)
+          (sym
+          (p .taken ∙ own-taken b (good .lengths) (good .range) (good .few) (c .call) (p .numbers) (p .bits) b′ met
+          ∙ reply-answer b (c .call) (good .lengths) (good .range)))
+          (command-low (networkIn (b .panel) (b .program)) _ (headIn (b .panel)) _ (c .call))
+      go (other lent left around e l met here there) =
+          subst (λ (x : Answer). numberOf x ≤ 43)
+          (sym (p .taken ∙ other-taken lent (c .call) (ap (λ (x : Lengths). sameLengths x fixed) e ∙ l) (p .bits) left met)) forty
+
+  -- the bits handed back are those of the answer
+  answer-bits : (b : Buffers) (c : Lent) (a : Answer) (b′ : Buffers) → Good f g b → (p : Post b c a b′) → p .bits ≡ answerBits a
+  answer-bits b c a b′ good p = go (p .answered)
+    where
+      go : Answered b c (p .bits) b′ → p .bits ≡ answerBits a
+      go (own e met) =
+          met .answer
+          ∙ ap answerBits (sym (p .taken ∙ own-taken b (good .lengths) (good .range) (good .few) (c .call) (p .numbers) (p .bits) b′ met))
+      go (other lent left around e l met here there) =
+          let wrong = ap (λ (x : Lengths). sameLengths x fixed) e ∙ l in
+          other-bits lent (c .call) wrong (p .bits) left met ∙ ap answerBits (sym (p .taken ∙ other-taken lent (c .call) wrong (p .bits) left met))
 
   -- the calls of a list, one after the other, each by its definition; a call with a wrong length is lent zeros of that length
   zeros : Lengths → Buffers
@@ -132,17 +168,35 @@ module _ (f : Network) (g : Module) where
   unfolding zeros
   zeros-lengths l = lengths-equal (lengthsOf (zeros l)) l (listed-length (l .panel) (λ a. 0)) (listed-length (l .program) (λ a. 0)) (listed-length (l .memory) (λ a. 0))
 
-  pub folded : (b : Buffers) → Good f g b → (cs : List Lent) → Trace Post b cs
-  folded b good [] = end
-  folded b good (c ∷ cs) =
-      go (folded (reply b (c .call) .buffers) (reply-stays b (c .call) good) cs) (folded b good cs) (sameLengths (c .lengths) fixed) refl
+  defined : (b : Buffers) (c : Call) → Meets b c (answerBits (reply b c .answer)) (reply b c .buffers)
+  defined b c = record { answer = refl; leaves = refl }
+
+  pub folded : (b : Buffers) → Good f g b → (cs : List Lent) → Every32 cs → Trace Post b cs
+  unfolding Every32
+  folded b good [] numbers = end
+  folded b good (c ∷ cs) numbers =
+      go (folded (reply b (c .call) .buffers) (reply-stays b (c .call) good) cs (numbers .1)) (folded b good cs (numbers .1)) (sameLengths (c .lengths) fixed) refl
     where
       go : Trace Post (reply b (c .call) .buffers) cs → Trace Post b cs → (t : Bool) → sameLengths (c .lengths) fixed ≡ t → Trace Post b (c ∷ cs)
       go rest same true e =
-          next (reply b (c .call) .answer) (reply b (c .call) .buffers)
-          (_, own (lengths-same (lengthsOf b) fixed (good .lengths) ∙ sym (lengths-same (c .lengths) fixed e)) refl refl refl) rest
+          next _ (reply b (c .call) .buffers)
+          (record {
+            bits = answerBits (reply b (c .call) .answer);
+            numbers = numbers .0;
+            taken = refl;
+            answered = own (lengths-same (lengthsOf b) fixed (good .lengths) ∙ sym (lengths-same (c .lengths) fixed e)) (defined b (c .call));
+          })
+          rest
       go rest same false e =
-          next (reply (zeros (c .lengths)) (c .call) .answer) b (_, other (zeros (c .lengths)) (zeros-lengths (c .lengths)) e refl refl refl) same
+          let lent = zeros (c .lengths) in
+          next _ b
+          (record {
+            bits = answerBits (reply lent (c .call) .answer);
+            numbers = numbers .0;
+            taken = refl;
+            answered = other lent (reply lent (c .call) .buffers) (λ x. b) (zeros-lengths (c .lengths)) e (defined lent (c .call)) refl refl;
+          })
+          same
 
 module _ (files : Files) (accepted : Accepted panelLimit files) where
   abbrev n : Network
@@ -177,11 +231,13 @@ module _ (files : Files) (accepted : Accepted panelLimit files) where
         range = range;
         holding = holding;
         watching = watching-in n m opened range holding;
+        few = omega (arith, loaded-head (files .NET) (files .MOD) (net-accepted panelLimit files accepted) (mod-accepted panelLimit files accepted) (files .STIM) .0);
       }
 
-  module _ (good : Good n m opened) where
-    bytes-demand-3 : {cs : List Lent} (t : Trace Post opened cs) → Demand3 Post working fixed n m (givenOf files) t (fresh (givenOf files)) []
-    unfolding fresh moduleOf network start
+  -- whichever values follow the rules of VAL
+  module _ (good : Good n m opened) (table : List (ℕ → ℕ) → ℕ → ℕ) (follows : FollowsAlways n (givenOf files) table) where
+    bytes-demand-3 : {cs : List Lent} (t : Trace Post opened cs) → Demand3 Post working fixed n m (givenOf files) table t []
+    unfolding fresh moduleOf network start plainAfter
     bytes-demand-3 t =
         let formed = accepted-formed panelLimit files accepted in
         let acyclic = accepted-acyclic panelLimit files accepted in
@@ -189,10 +245,11 @@ module _ (files : Files) (accepted : Accepted panelLimit files) where
         let placed = placed-there panelLimit files accepted in
         let processor : (ℕ → ℕ) = λ s. placeOf panelLimit files accepted s .0 in
         let slot : (ℕ → ℕ) = λ s. placeOf panelLimit files accepted s .1 in
-        demand-3 working fixed n m processor slot (Near m) (givenOf files)
-        (keeps formed acyclic ok (givenOf files) processor slot placed) (kept-places formed acyclic ok (givenOf files)) (kept-near formed acyclic ok (givenOf files))
+        demand-3 working fixed n m processor slot (Near m) (givenOf files) table
+        (keeps formed acyclic ok (givenOf files) table follows processor slot placed) (kept-table formed acyclic ok (givenOf files) table follows)
+        (kept-near formed acyclic ok (givenOf files))
         Post (Good n m) (meets ok (processors-few files accepted) (slots-few files accepted) processor slot placed (head-back n m)) (stays n m)
-        t (fresh (givenOf files)) []
+        t []
         (record {
           good = good;
           head = opened-head;
@@ -232,25 +289,26 @@ module _ (files : Files) (accepted : Accepted panelLimit files) where
         ∙ ap (λ (x : List ℕ). buffersOf (opened .panel) x (left .memory)) (opens .program ∙ ap (λ (c : Check). leftBy c (opened .program) (before .program)) accepts)
         ∙ ap (λ (x : List ℕ). buffersOf (opened .panel) (opened .program) x) (opens .memory ∙ ap (λ (c : Check). leftBy c (opened .memory) (before .memory)) accepts)
 
-    pub session-demand-3 : {cs : List Lent} (t : Trace Post left cs) → Demand3 Post working fixed n m (givenOf files) t (fresh (givenOf files)) []
-    session-demand-3 {cs} =
-        subst (λ (b : Buffers). (t : Trace Post b cs) → Demand3 Post working fixed n m (givenOf files) t (fresh (givenOf files)) []) (sym left-opened)
-        (bytes-demand-3 opened-good)
+    pub session-demand-3 : {cs : List Lent} (t : Trace Post left cs) (table : List (ℕ → ℕ) → ℕ → ℕ) → FollowsAlways n (givenOf files) table
+        → Demand3 Post working fixed n m (givenOf files) table t []
+    session-demand-3 {cs} t table follows =
+        subst (λ (b : Buffers). (u : Trace Post b cs) → Demand3 Post working fixed n m (givenOf files) table u []) (sym left-opened)
+        (bytes-demand-3 opened-good table follows) t
+
+    left-good : Good n m left
+    left-good = subst (Good n m) (sym left-opened) opened-good
 
     pub session-good : {cs : List Lent} (t : Trace Post left cs) → Throughout (Good n m) t
-    session-good t = good-throughout n m (subst (Good n m) (sym left-opened) opened-good) t
+    session-good t = good-throughout n m left-good t
 
-    pub session-never-44 : {cs : List Lent} (t : Trace Post left cs) → EveryAnswer (λ a. numberOf a ≤ 43) t
-    session-never-44 t = never-44 n m (subst (Good n m) (sym left-opened) opened-good) t
+    pub session-never-44 : {cs : List Lent} (t : Trace Post left cs) → EveryCall (λ c bits a. numberOf a ≤ 43) t
+    session-never-44 t = every-call n m (λ c bits a. numberOf a ≤ 43) (answer-low n m) left-good t
 
-    -- The 64 bits handed back are those of the plain session's answers, and taken apart they are these answers
-    pub session-bits : {cs : List Lent} (t : Trace Post left cs) → BitsTell n (givenOf files) t (fresh (givenOf files)) []
-    unfolding fresh
-    session-bits t =
-        tells n m (processors-few files accepted) (slots-few files accepted) (givenOf files) t (fresh (givenOf files)) [] (omega arith) (session-good t)
-        (session-demand-3 t)
+    -- The 64 bits handed back are those of the answers, which are the plain session's by demand 3
+    pub session-bits : {cs : List Lent} (t : Trace Post left cs) → EveryCall (λ c bits a. bits ≡ answerBits a) t
+    session-bits t = every-call n m (λ c bits a. bits ≡ answerBits a) (answer-bits n m) left-good t
 
   -- The same without a trace: the calls' definition folded over any list of calls, from the opened files.
-  pub folded-demand-3 : (cs : List Lent)
-      → Demand3 Post working fixed n m (givenOf files) (folded n m opened opened-good cs) (fresh (givenOf files)) []
-  folded-demand-3 cs = bytes-demand-3 opened-good (folded n m opened opened-good cs)
+  pub folded-demand-3 : (cs : List Lent) (numbers : Every32 cs) (table : List (ℕ → ℕ) → ℕ → ℕ) → FollowsAlways n (givenOf files) table
+      → Demand3 Post working fixed n m (givenOf files) table (folded n m opened opened-good cs numbers) []
+  folded-demand-3 cs numbers table follows = bytes-demand-3 opened-good table follows (folded n m opened opened-good cs numbers)

@@ -1,15 +1,18 @@
--- What the exported calls' own contracts promise is `Answered` and `Opens`. `Asked` and `Learnt` are what each function's `requires` asks and
--- what its `ensures` tells a caller, handed on by its crate. They ask nothing; and for any references lent, whatever is told of the result
--- and of the buffers at the return, is what demand 3 takes of a call.
+-- What the exported calls' own contracts promise is what demand 3 takes of a call. `Asked` and `Learnt` are what each function's `requires`
+-- asks and what its `ensures` tells a caller, handed on by its crate. They ask nothing; and for any references lent, whatever is told of
+-- the result and of the buffers at the return is `Meets`, or `Opens`.
 use Prim.Native.Nat.{ℕ}
 use mathlib.Core.Path.{_≡_, refl, sym}
+use mathlib.Core.Bool.{false}
 use contract.Lifetimes.{Lfts}
 use denote.Ref.{now}
 use denote.Triple.Clauses.{AtExit}
 use borrow.Fn.Kinds.{Dens, endedOf}
 use Rattle.model.specs.Files.{Files}
-use Rattle.model.specs.Session.{Call, Lent, set, watch, read, run}
+use Rattle.model.specs.Session.{Call, Lent, sameLengths, set, watch, read, run}
 use Rattle.answers.specs.Answers.{answerBits}
+use Rattle.answers.specs.Apart.{apart}
+use Rattle.lengths.specs.Lengths.{fixed}
 use Rattle.session.specs.Reply.{Buffers, buffersOf, lengthsOf, reply}
 use Rattle.session.proofs.cavundir_set.Kinds.{ps as set-ps, r as set-r}
 use Rattle.session.proofs.cavundir_set.Reads.{Asked as SetAsks, Learnt as SetTells}
@@ -21,51 +24,60 @@ use Rattle.session.proofs.cavundir_run.Kinds.{ps as run-ps, r as run-r}
 use Rattle.session.proofs.cavundir_run.Reads.{Asked as RunAsks, Learnt as RunTells}
 use Rattle.opening.proofs.cavundir_open.Kinds.{ps as open-ps, r as open-r}
 use Rattle.opening.proofs.cavundir_open.Reads.{Asked as OpenAsks, Learnt as OpenTells}
-use Rattle.demand.specs.Lending.{Opens, Answered, own}
+use Rattle.demand.specs.Lending.{Opens, Meets, Answered, own, other, kindOf, Has32, Post}
 
--- a call lent b hands back bits and leaves b′
-abbrev pub Answers : Buffers → Call → ℕ → Buffers → Type 0
-Answers b c bits b′ = Answered b (record { lengths = lengthsOf b; call = c }) bits (reply b c .answer) b′
+-- A call that met its contract stands in a list: lent the session's buffers, or others of which a length is wrong.
+module _ {lent left : Buffers} {c : Call} {bits : ℕ} (numbers : Has32 c) (met : Meets lent c bits left) where
+  abbrev called : Lent
+  called = record { lengths = lengthsOf lent; call = c }
 
-answers : (b : Buffers) (c : Call) (bits : ℕ) (b′ : Buffers) → (bits ≡ answerBits (reply b c .answer)) × (reply b c .buffers ≡ b′) → Answers b c bits b′
-answers b c bits b′ (p, q) = own refl p refl (sym q)
+  pub own-stands : Post lent called (apart (kindOf c) bits) left
+  own-stands = record { bits = bits; numbers = numbers; taken = refl; answered = own refl met }
+
+  pub other-stands : sameLengths (lengthsOf lent) fixed ≡ false → (around : Buffers → Buffers)
+      → Post (around lent) called (apart (kindOf c) bits) (around left)
+  other-stands wrong around =
+      record { bits = bits; numbers = numbers; taken = refl; answered = other lent left around refl wrong met refl refl }
+
+meets : (b : Buffers) (c : Call) (bits : ℕ) (b′ : Buffers) → (bits ≡ answerBits (reply b c .answer)) × (reply b c .buffers ≡ b′) → Meets b c bits b′
+meets b c bits b′ (p, q) = record { answer = p; leaves = sym q }
 
 module _ (κs : Lfts 3) where
   module _ (a : Dens κs set-ps) where
     pub set-asks-nothing : SetAsks κs a
     set-asks-nothing = tt
 
-    pub set-answers : (bits : ℕ) (left : AtExit (endedOf 3 set-ps set-r) κs) → SetTells κs a bits left
-        → Answers (buffersOf (now (a .0)) (now (a .1 .0)) (now (a .1 .1 .0))) (set (a .1 .1 .1 .0) (a .1 .1 .1 .1 .0)) bits
+    pub set-meets : (bits : ℕ) (left : AtExit (endedOf 3 set-ps set-r) κs) → SetTells κs a bits left
+        → Meets (buffersOf (now (a .0)) (now (a .1 .0)) (now (a .1 .1 .0))) (set (a .1 .1 .1 .0) (a .1 .1 .1 .1 .0)) bits
         (buffersOf (now (left .0)) (now (a .1 .0)) (now (a .1 .1 .0)))
-    set-answers bits left told = answers _ _ _ _ told
+    set-meets bits left told = meets _ _ _ _ told
 
   module _ (a : Dens κs watch-ps) where
     pub watch-asks-nothing : WatchAsks κs a
     watch-asks-nothing = tt
 
-    pub watch-answers : (bits : ℕ) (left : AtExit (endedOf 3 watch-ps watch-r) κs) → WatchTells κs a bits left
-        → Answers (buffersOf (now (a .0)) (now (a .1 .0)) (now (a .1 .1 .0))) (watch (a .1 .1 .1 .0) (a .1 .1 .1 .1 .0)) bits
+    pub watch-meets : (bits : ℕ) (left : AtExit (endedOf 3 watch-ps watch-r) κs) → WatchTells κs a bits left
+        → Meets (buffersOf (now (a .0)) (now (a .1 .0)) (now (a .1 .1 .0))) (watch (a .1 .1 .1 .0) (a .1 .1 .1 .1 .0)) bits
         (buffersOf (now (left .0)) (now (a .1 .0)) (now (a .1 .1 .0)))
-    watch-answers bits left told = answers _ _ _ _ told
+    watch-meets bits left told = meets _ _ _ _ told
 
   module _ (a : Dens κs read-ps) where
     pub read-asks-nothing : ReadAsks κs a
     read-asks-nothing = tt
 
-    pub read-answers : (bits : ℕ) (left : AtExit (endedOf 3 read-ps read-r) κs) → ReadTells κs a bits left
-        → Answers (buffersOf (now (a .0)) (now (a .1 .0)) (now (a .1 .1 .0))) (read (a .1 .1 .1 .0)) bits
+    pub read-meets : (bits : ℕ) (left : AtExit (endedOf 3 read-ps read-r) κs) → ReadTells κs a bits left
+        → Meets (buffersOf (now (a .0)) (now (a .1 .0)) (now (a .1 .1 .0))) (read (a .1 .1 .1 .0)) bits
         (buffersOf (now (a .0)) (now (a .1 .0)) (now (a .1 .1 .0)))
-    read-answers bits left told = answers _ _ _ _ told
+    read-meets bits left told = meets _ _ _ _ told
 
   module _ (a : Dens κs run-ps) where
     pub run-asks-nothing : RunAsks κs a
     run-asks-nothing = tt
 
-    pub run-answers : (bits : ℕ) (left : AtExit (endedOf 3 run-ps run-r) κs) → RunTells κs a bits left
-        → Answers (buffersOf (now (a .0)) (now (a .1 .0)) (now (a .1 .1 .0))) (run (a .1 .1 .1 .0)) bits
+    pub run-meets : (bits : ℕ) (left : AtExit (endedOf 3 run-ps run-r) κs) → RunTells κs a bits left
+        → Meets (buffersOf (now (a .0)) (now (a .1 .0)) (now (a .1 .1 .0))) (run (a .1 .1 .1 .0)) bits
         (buffersOf (now (left .0)) (now (a .1 .0)) (now (left .1 .1 .0)))
-    run-answers bits left told = answers _ _ _ _ told
+    run-meets bits left told = meets _ _ _ _ told
 
 module _ (κs : Lfts 6) (a : Dens κs open-ps) where
   pub open-asks-nothing : OpenAsks κs a

@@ -1,6 +1,6 @@
 pub mod Meeting
-pub mod Chained
 pub mod Refusals
 pub mod Telling
+pub mod Chained
 pub mod Demand3
 pub mod Exported

@@ -6,7 +6,7 @@ use lib.Dec.{eqb, leb}
 use Rattle.logic.specs.Test.{_and_}
 use Rattle.model.specs.Refusal.{Check, pass, fail, first, unless}
 use Rattle.model.specs.Network.{Network, input, isSignal}
-use Rattle.model.specs.Session.{Engine, Head, Call, set, watch, read, run, Lent, sameLengths, callCheck, lentCheck, running, perform, meet, outcome}
+use Rattle.model.specs.Session.{Engine, Head, Call, set, watch, read, run, callCheck, running, perform, meet}
 use Rattle.lengths.specs.Lengths.{fixed}
 use Rattle.demand.specs.Lending.{numberOf}
 
@@ -42,8 +42,6 @@ meet-low n E h x (read s) pass l = omega arith
 meet-low n E h x (run k) pass l = omega arith
 meet-low n E h x c (fail number returned) l = l
 
-pub outcome-low : (n : Network) (E : Engine) (h : Head) (x : E .State) (c : Lent) → numberOf (outcome fixed n E h x c .answer) ≤ 43
-unfolding outcome lentCheck
-outcome-low n E h x c =
-    meet-low n E h x (c .call) (first (unless (sameLengths (c .lengths) fixed) 40 0) (callCheck n (h .finished) (c .call)))
-    (first-low (unless (sameLengths (c .lengths) fixed) 40 0) (callCheck n (h .finished) (c .call)) (unless-low _ 40 0 (omega arith)) (call-low n (h .finished) (c .call)))
+-- 41 to 43
+pub command-low : (n : Network) (E : Engine) (h : Head) (x : E .State) (c : Call) → numberOf (meet fixed n E h x c (callCheck n (h .finished) c) .answer) ≤ 43
+command-low n E h x c = meet-low n E h x c (callCheck n (h .finished) c) (call-low n (h .finished) c)

@@ -1,30 +1,32 @@
--- The 64 bits of a call's answer, in a list of calls on the session's buffers: they are those of the plain session's answer, and taken
--- apart they are that answer.
-use Prim.Native.Nat.{ℕ, zero, suc, _+_, _<_, _≤_}
+-- What C takes out of the 64 bits of a call's answer is that answer: numbers that have 32 bits are handed back, a value that is read is at
+-- most 3, and the cycles finished are at most 65535, before every call and after it.
+use Prim.Native.Nat.{ℕ, _+_, _<_, _≤_}
 use mathlib.Core.Path.{_≡_, refl, sym, subst, _∙_, ap}
 use mathlib.Core.Bool.{Bool, true, false}
 use mathlib.Core.List.{List}
 use native.Mathlib.Omega.{arith}
-use lib.Dec.{eqb, leb}
-use borrow.Author.Tests.{leb-true, leb-false}
-use Rattle.logic.specs.Test.{_and_}
+use borrow.Author.Tests.{leb-true}
 use Rattle.model.specs.Refusal.{Check, pass, fail, first, unless}
-use Rattle.model.specs.Network.{Network, Signal, input, isSignal}
-use Rattle.model.specs.Value.{VAL}
-use Rattle.model.specs.Module.{Module, localEarlier}
-use Rattle.model.specs.Session.{Engine, plain, watched, Head, Call, set, watch, read, run, Lent, sameLengths, Answer, callCheck, lentCheck, running, perform, meet, outcome}
-use Rattle.model.specs.Demands.{Trace, end, next, Agrees, Demand3}
+use Rattle.model.specs.Network.{Network, Signal}
+use Rattle.model.specs.Module.{localEarlier}
+use Rattle.model.specs.Session.{Engine, lockstep, watched, Head, Call, set, watch, read, run, sameLengths, callCheck, running, perform, meet, refused}
+use Rattle.model.proofs.Refusals.{unless-true}
 use Rattle.model.proofs.Chains.{signal-true}
 use Rattle.model.proofs.Runs.{runs-exact}
 use Rattle.memory.specs.Memory.{memoryOf}
-use Rattle.ranges.proofs.Ranged.{memory-in-range}
-use Rattle.tables.specs.Panel.{processorIn, slotIn}
+use Rattle.tables.specs.Panel.{finishedIn, processorIn, slotIn}
+use Rattle.tables.specs.Tables.{networkIn, moduleIn}
+use Rattle.ranges.specs.Ranges.{ranged}
+use Rattle.ranges.proofs.Ranged.{head-ranged, signal-ranged, memory-in-range}
 use Rattle.answers.specs.Answers.{answerBits}
-use Rattle.answers.proofs.Bits.{AnswerOf, refusal, nothing, read-value, cycles, apart, apart-bits}
+use Rattle.answers.specs.Apart.{apart}
+use Rattle.answers.proofs.Bits.{AnswerOf, refusal, nothing, read-value, cycles, apart-bits}
+use Rattle.header.specs.Header.{headIn}
 use Rattle.lengths.specs.Lengths.{fixed}
-use Rattle.session.specs.Reply.{Buffers}
-use Rattle.demand.specs.Lending.{working, Answered, own, other, Post, Throughout, kindOf, Has32, BitsTell}
-use Rattle.demand.proofs.Chained.{Good}
+use Rattle.session.specs.Reply.{Buffers, lengthsOf, Reply, reply}
+use Rattle.session.proofs.Replies.{checkIn, outcomeIn, reply-40, reply-answer, Leaves, done, stays, reply-leaves}
+use Rattle.kept.proofs.Heads.{with-head-finished}
+use Rattle.demand.specs.Lending.{Meets, kindOf, Has32}
 
 -- a check that fails does so with numbers that have their bits
 data Told32 : Check → Type 0 where
@@ -48,93 +50,90 @@ call-32 n finished few (watch s mask) (a, b) = first-32 _ _ (unless-32 _ 41 s (o
 call-32 n finished few (read s) a = unless-32 _ 41 s (omega arith) (omega arith) a
 call-32 n finished few (run k) a = unless-32 _ 43 finished (omega arith) (omega arith) (omega arith)
 
--- what a call that is not refused was asked for
-first-pass : (a b : Check) → first a b ≡ pass → b ≡ pass
-unfolding first
-first-pass pass b e = e
-first-pass (fail number returned) b e = absurd (let z : _≡_ {A = ℕ} 0 1 = cc in omega arith)
-
-unless-pass : (t : Bool) (number returned : ℕ) → unless t number returned ≡ pass → t ≡ true
-unfolding unless
-unless-pass true number returned e = refl
-unless-pass false number returned e = absurd (let z : _≡_ {A = ℕ} 0 1 = cc in omega arith)
-
 module _ (n : Network) (E : Engine) (h : Head) (x : E .State) (few : h .finished ≤ 65535) where
   -- a run is within the cycles that there are
   run-few : (k : ℕ) → callCheck n (h .finished) (run k) ≡ pass → h .finished + running fixed n E h k x .count ≤ 65535
   unfolding callCheck running
   run-few k e =
       let most = runs-exact (E .tick (h .hand)) (λ y. watched (h .watch .mask) (E .value y (h .watch .signal))) k x .most in
-      omega (arith, most, leb-true (h .finished + k) 65535 (unless-pass _ 43 (h .finished) e))
+      omega (arith, most, leb-true (h .finished + k) 65535 (unless-true _ 43 (h .finished) e))
 
   read-signal : (s : ℕ) → callCheck n (h .finished) (read s) ≡ pass → Signal n s
   unfolding callCheck
-  read-signal s e = signal-true n s (unless-pass _ 41 s e)
+  read-signal s e = signal-true n s (unless-true _ 41 s e)
+
+  performed-few : (c : Call) → callCheck n (h .finished) c ≡ pass → perform fixed n E h x c .head .finished ≤ 65535
+  unfolding perform
+  performed-few (set s v) e = few
+  performed-few (watch s mask) e = few
+  performed-few (read s) e = few
+  performed-few (run k) e = run-few k e
+
+  met-few : (c : Call) (k : Check) → (k ≡ pass → callCheck n (h .finished) c ≡ pass) → meet fixed n E h x c k .head .finished ≤ 65535
+  unfolding meet
+  met-few c pass e = performed-few c (e refl)
+  met-few c (fail number returned) e = few
 
   module _ (low : (s : ℕ) → Signal n s → E .value x s ≤ 3) where
-    perform-of : (c : Call) → callCheck n (h .finished) c ≡ pass → AnswerOf (kindOf c) (perform fixed n E h x c .answer)
+    performed-of : (c : Call) → callCheck n (h .finished) c ≡ pass → AnswerOf (kindOf c) (perform fixed n E h x c .answer)
     unfolding perform
-    perform-of (set s v) e = nothing
-    perform-of (watch s mask) e = nothing
-    perform-of (read s) e = read-value {v = E .value x s} (omega (arith, low s (read-signal s e)))
-    perform-of (run k) e = cycles {count = running fixed n E h k x .count} (omega (arith, run-few k e))
+    performed-of (set s v) e = nothing
+    performed-of (watch s mask) e = nothing
+    performed-of (read s) e = read-value {v = E .value x s} (omega (arith, low s (read-signal s e)))
+    performed-of (run k) e = cycles {count = running fixed n E h k x .count} (omega (arith, run-few k e))
 
-    meet-of : (c : Call) (k : Check) → Told32 k → (k ≡ pass → callCheck n (h .finished) c ≡ pass) → AnswerOf (kindOf c) (meet fixed n E h x c k .answer)
+    met-of : (c : Call) (k : Check) → Told32 k → (k ≡ pass → callCheck n (h .finished) c ≡ pass) → AnswerOf (kindOf c) (meet fixed n E h x c k .answer)
     unfolding meet
-    meet-of c pass t e = perform-of c (e refl)
-    meet-of c (fail number returned) (fails a b l) e = refusal a b l
+    met-of c pass t e = performed-of c (e refl)
+    met-of c (fail number returned) (fails a b l) e = refusal a b l
 
-    -- every answer is one that the bits give back
-    outcome-of : (c : Lent) → Has32 (c .call) → AnswerOf (kindOf (c .call)) (outcome fixed n E h x c .answer)
-    unfolding outcome lentCheck
-    outcome-of c a =
-        meet-of (c .call) _
-        (first-32 _ _ (unless-32 (sameLengths (c .lengths) fixed) 40 0 (omega arith) (omega arith) (omega arith)) (call-32 n (h .finished) few (c .call) a))
-        (first-pass _ _)
+-- On buffers of the right lengths that 44 lets pass
+module _ (b : Buffers) (lengths : sameLengths (lengthsOf b) fixed ≡ true) (range : ranged (b .panel) (b .program) (b .memory) ≡ true)
+    (few : finishedIn (b .panel) ≤ 65535) where
+  abbrev n : Network
+  n = networkIn (b .panel) (b .program)
 
-  -- and the cycles finished stay within those that there are
-  outcome-few : (c : Lent) → outcome fixed n E h x c .head .finished ≤ 65535
-  unfolding outcome lentCheck meet perform
-  outcome-few c = go (lentCheck fixed n (h .finished) c) (first-pass _ _)
-    where
-      done : (c : Call) → callCheck n (h .finished) c ≡ pass → perform fixed n E h x c .head .finished ≤ 65535
-      done (set s v) e = few
-      done (watch s mask) e = few
-      done (read s) e = few
-      done (run k) e = run-few k e
+  abbrev E : Engine
+  E = lockstep n (moduleIn (b .panel) (b .program)) (processorIn (b .panel)) (slotIn (b .panel))
 
-      go : (k : Check) → (k ≡ pass → callCheck n (h .finished) (c .call) ≡ pass) → meet fixed n E h x (c .call) k .head .finished ≤ 65535
-      go pass e = done (c .call) (e refl)
-      go (fail number returned) e = few
-
--- the bits are those of the answer
-bits-are : {b : Buffers} {c : Lent} {bits : ℕ} {a : Answer} {b′ : Buffers} → Answered b c bits a b′ → bits ≡ answerBits a
-bits-are (own e w q r) = w ∙ ap answerBits (sym q)
-bits-are (other lent e l w q r) = w ∙ ap answerBits (sym q)
-
-module _ (f : Network) (g : Module) (few : g .processors ≤ 16) (short : g .slots ≤ 256) (given : ℕ → ℕ) where
-  -- the plain session's values are values
-  value-low : (b : Buffers) (h : Head) (rows : List (ℕ → ℕ)) → Good f g b → Agrees Post working fixed f g given b h rows
-      → (s : ℕ) → Signal f s → VAL f given rows s ≤ 3
-  unfolding memoryOf
-  value-low b h rows good agrees s a =
-      let there = good .holding .places s a in
-      subst (λ (v : ℕ). v ≤ 3) (agrees .places s (processorIn (b .panel) s) (slotIn (b .panel) s) a (there .at) (there .is))
-      (memory-in-range (b .panel) (b .program) (b .memory) (good .range) .values {part = localEarlier} {k = slotIn (b .panel) s}
+  value-low : (s : ℕ) → Signal n s → memoryOf (b .memory) .earlierLocal (processorIn (b .panel) s) (slotIn (b .panel) s) ≤ 3
+  unfolding memoryOf networkIn
+  value-low s a =
+      let there = signal-ranged (b .panel) (b .program) (b .memory) range s (a .low) (a .high) in
+      let head = head-ranged (b .panel) (b .program) (b .memory) range in
+      memory-in-range (b .panel) (b .program) (b .memory) range .values {part = localEarlier} {k = slotIn (b .panel) s}
       (record {
-        processor-low = omega (arith, there .at .processor, few);
+        processor-low = omega (arith, there .processor-low, head .processors-high);
         part-low = omega arith;
-        location-low = omega (arith, there .at .slot, short);
-      }))
+        location-low = omega (arith, there .slot-low, head .slots-high);
+      })
 
-  pub tells : {b : Buffers} {cs : List Lent} (t : Trace Post b cs) (h : Head) (rows : List (ℕ → ℕ)) → h .finished ≤ 65535
-      → Throughout (Good f g) t → Demand3 Post working fixed f g given t h rows → BitsTell f given t h rows
-  unfolding Throughout Demand3 BitsTell
-  tells end h rows low good demand = tt
-  tells (next {b} {c} a b′ p rest) h rows low (good, later) (agrees, same, inside, on) =
-      let bits = bits-are (p .1) ∙ ap answerBits same in (
-        bits,
-        λ q. ap (apart (kindOf (c .call))) bits
-            ∙ apart-bits (kindOf (c .call)) _ (outcome-of f (plain f given) h rows low (value-low b h rows good agrees) c q),
-        tells rest _ _ (outcome-few f (plain f given) h rows low c) later on,
-      )
+  pub reply-of : (c : Call) → Has32 c → AnswerOf (kindOf c) (reply b c .answer)
+  reply-of c numbers =
+      subst (AnswerOf (kindOf c)) (sym (reply-answer b c lengths range))
+      (met-of n E (headIn (b .panel)) (memoryOf (b .memory)) few value-low c (checkIn b c) (call-32 n (finishedIn (b .panel)) few c numbers) (λ e. e))
+
+  pub reply-few : (c : Call) → finishedIn (reply b c .buffers .panel) ≤ 65535
+  reply-few c = go (reply-leaves b c lengths range)
+    where
+      most : outcomeIn b c .head .finished ≤ 65535
+      most = met-few n E (headIn (b .panel)) (memoryOf (b .memory)) few c (checkIn b c) (λ e. e)
+
+      go : Leaves b c → finishedIn (reply b c .buffers .panel) ≤ 65535
+      go (done is) = subst (λ (d : Buffers). finishedIn (d .panel) ≤ 65535) (sym is) (omega (arith, with-head-finished (outcomeIn b c .head) (b .panel), most))
+      go (stays is head state) = subst (λ (d : Buffers). finishedIn (d .panel) ≤ 65535) (sym is) few
+
+  -- what C takes out of the bits is the answer
+  pub own-taken : (c : Call) → Has32 c → (bits : ℕ) (left : Buffers) → Meets b c bits left → apart (kindOf c) bits ≡ reply b c .answer
+  own-taken c numbers bits left met = ap (apart (kindOf c)) (met .answer) ∙ apart-bits (kindOf c) (reply b c .answer) (reply-of c numbers)
+
+-- and on buffers of which a length is wrong, which stay as they were
+module _ (lent : Buffers) (c : Call) (wrong : sameLengths (lengthsOf lent) fixed ≡ false) (bits : ℕ) (left : Buffers) (met : Meets lent c bits left) where
+  pub other-bits : bits ≡ answerBits (refused 40 0)
+  other-bits = met .answer ∙ ap (λ (x : Reply). answerBits (x .answer)) (reply-40 lent c wrong)
+
+  pub other-taken : apart (kindOf c) bits ≡ refused 40 0
+  other-taken = ap (apart (kindOf c)) other-bits ∙ apart-bits (kindOf c) (refused 40 0) (refusal (omega arith) (omega arith) (omega arith))
+
+  pub other-stays : left ≡ lent
+  other-stays = met .leaves ∙ ap (λ (x : Reply). x .buffers) (reply-40 lent c wrong)

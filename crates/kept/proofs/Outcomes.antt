@@ -10,7 +10,7 @@ use Rattle.model.proofs.Refusals.{first-left, first-right, unless-true}
 use Rattle.model.specs.Network.{Network, Signal, isSignal}
 use Rattle.model.specs.Module.{Module, Laid}
 use Rattle.model.specs.Machine.{Memory}
-use Rattle.model.specs.Session.{Engine, lockstep, watched, Call, set, watch, read, run, Outcome, callCheck, lentCheck, running, perform, meet, outcome}
+use Rattle.model.specs.Session.{Engine, lockstep, watched, Call, set, watch, read, run, Outcome, callCheck, running, perform, meet}
 use Rattle.model.proofs.Machine.{Small}
 use Rattle.memory.specs.Memory.{memoryOf}
 use Rattle.tables.specs.Panel.{signalsIn, finishedIn, handIn, processorIn, slotIn}
@@ -20,7 +20,8 @@ use Rattle.ranges.proofs.Laid.{lines-laid}
 use Rattle.ranges.proofs.Ranged.{panel-in-range, program-in-range}
 use Rattle.header.specs.Header.{headIn}
 use Rattle.lengths.specs.Lengths.{fixed}
-use Rattle.session.specs.Reply.{Buffers, lengthsOf, outcomeIn}
+use Rattle.session.specs.Reply.{Buffers}
+use Rattle.session.proofs.Replies.{checkIn, outcomeIn}
 use Rattle.kept.proofs.Panels.{InRange, head-in-range, with-value-in-range}
 use Rattle.kept.proofs.Memories.{small-in, run-small}
 
@@ -92,10 +93,9 @@ module _ (b : Buffers) (r : ranged (b .panel) (b .program) (b .memory) ≡ true)
       stops y = watched (headIn panel .watch .mask) (E .value y (headIn panel .watch .signal))
 
   pub outcome-kept : (c : Call) → Kept panel (b .program) (outcomeIn b c)
-  unfolding outcome meet lentCheck
-  outcome-kept c = go (lentCheck fixed n (finishedIn panel) (record { lengths = lengthsOf b; call = c })) refl
+  unfolding meet
+  outcome-kept c = go (checkIn b c) refl
     where
-      go : (k : Check) → lentCheck fixed n (finishedIn panel) (record { lengths = lengthsOf b; call = c }) ≡ k
-          → Kept panel (b .program) (meet fixed n E (headIn panel) (memoryOf (b .memory)) c k)
-      go pass e = perform-kept c (first-right _ _ e)
+      go : (k : Check) → checkIn b c ≡ k → Kept panel (b .program) (meet fixed n E (headIn panel) (memoryOf (b .memory)) c k)
+      go pass e = perform-kept c e
       go (fail number returned) e = record { head = here; state = small }

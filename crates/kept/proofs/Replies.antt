@@ -14,19 +14,23 @@ use Rattle.tables.specs.Holding.{Holding}
 use Rattle.ranges.specs.Ranges.{ranged}
 use Rattle.ranges.proofs.Ranged.{Values, is-ranged, panel-in-range, program-in-range, memory-in-range, head-ranged}
 use Rattle.header.specs.Header.{withHead}
-use Rattle.session.specs.Reply.{Buffers, lengthsOf, outcomeIn, leaving, reply, Reply}
+use Rattle.session.specs.Reply.{Buffers, lengthsOf, leaving, reply, Reply}
 use Rattle.kept.proofs.Heads.{with-head-length, with-head-processors, with-head-slots}
 use Rattle.kept.proofs.Holding.{with-head-holding}
 use Rattle.lengths.specs.Lengths.{fixed}
-use Rattle.session.proofs.Replies.{reply-44, reply-right}
+use Rattle.session.proofs.Replies.{outcomeIn, reply-44, Leaves, done, stays, reply-leaves}
 use Rattle.kept.proofs.Panels.{with-head-panel, with-head-program}
 use Rattle.kept.proofs.Memories.{held-values}
 use Rattle.kept.proofs.Outcomes.{outcome-kept}
 
 module _ (b : Buffers) (c : Call) (lent : sameLengths (lengthsOf b) fixed ≡ true) where
-  -- where 44 does not come, a call leaves its outcome
-  leaves : ranged (b .panel) (b .program) (b .memory) ≡ true → reply b c .buffers ≡ leaving b (outcomeIn b c)
-  leaves r = ap (λ (x : Reply). x .buffers) (reply-right b c lent r)
+  -- where 44 does not come, what holds of the buffers lent and of the outcome written into them holds of what a call leaves
+  kept : ranged (b .panel) (b .program) (b .memory) ≡ true → (P : Buffers → Type 0) → P b → P (leaving b (outcomeIn b c)) → P (reply b c .buffers)
+  kept r P here written = go (reply-leaves b c lent r)
+    where
+      go : Leaves b c → P (reply b c .buffers)
+      go (done is) = subst P (sym is) written
+      go (stays is head state) = subst P (sym is) here
 
   left-lengths : sameLengths (lengthsOf (leaving b (outcomeIn b c))) fixed ≡ true
   unfolding sameLengths
@@ -39,7 +43,7 @@ module _ (b : Buffers) (c : Call) (lent : sameLengths (lengthsOf b) fixed ≡ tr
   reply-lengths = go (ranged (b .panel) (b .program) (b .memory)) refl
     where
       go : (t : Bool) → ranged (b .panel) (b .program) (b .memory) ≡ t → sameLengths (lengthsOf (reply b c .buffers)) fixed ≡ true
-      go true r = subst (λ (d : Buffers). sameLengths (lengthsOf d) fixed ≡ true) (sym (leaves r)) left-lengths
+      go true r = kept r (λ d. sameLengths (lengthsOf d) fixed ≡ true) lent left-lengths
       go false r = subst (λ (d : Buffers). sameLengths (lengthsOf d) fixed ≡ true) (sym (ap (λ (x : Reply). x .buffers) (reply-44 b c lent r))) lent
 
   module _ (r : ranged (b .panel) (b .program) (b .memory) ≡ true) where
@@ -64,7 +68,7 @@ module _ (b : Buffers) (c : Call) (lent : sameLengths (lengthsOf b) fixed ≡ tr
         left-values
 
     pub reply-ranged : ranged (reply b c .buffers .panel) (reply b c .buffers .program) (reply b c .buffers .memory) ≡ true
-    reply-ranged = subst (λ (d : Buffers). ranged (d .panel) (d .program) (d .memory) ≡ true) (sym (leaves r)) left-ranged
+    reply-ranged = kept r (λ d. ranged (d .panel) (d .program) (d .memory) ≡ true) r left-ranged
 
     module _ {n : Network} {m : Module} (holding : Holding n m (b .panel) (b .program)) where
       left-holding : Holding n m (leaving b (outcomeIn b c) .panel) (b .program)
@@ -73,4 +77,4 @@ module _ (b : Buffers) (c : Call) (lent : sameLengths (lengthsOf b) fixed ≡ tr
           (head-ranged (b .panel) (b .program) (b .memory) r .signals-high) holding
 
       pub reply-holding : Holding n m (reply b c .buffers .panel) (reply b c .buffers .program)
-      reply-holding = subst (λ (d : Buffers). Holding n m (d .panel) (d .program)) (sym (leaves r)) left-holding
+      reply-holding = kept r (λ d. Holding n m (d .panel) (d .program)) holding left-holding

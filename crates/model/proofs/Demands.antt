@@ -10,12 +10,12 @@ use Rattle.model.specs.Refusal.{pass}
 use Rattle.model.specs.Files.{Files}
 use Rattle.model.specs.Network.{Network, Signal, isSignal}
 use Rattle.model.specs.Netlist.{network, netSurplus, netChains, netCheck}
-use Rattle.model.specs.Value.{start, Follows, VAL}
+use Rattle.model.specs.Value.{start, Follows, VAL, FollowsAlways}
 use Rattle.model.specs.Module.{Module, At}
 use Rattle.model.specs.Machine.{Memory, opening, after}
 use Rattle.model.specs.Stimulus.{held, endTime}
 use Rattle.model.specs.Acceptance.{networkOf, scheduleOf, givenOf, Accepted}
-use Rattle.model.specs.Session.{lockstep, Head, fresh, Lengths, Lent, Answer, Outcome, outcome}
+use Rattle.model.specs.Session.{lockstep, Head, fresh, Lengths, Lent, Answer, Outcome, outcome, plainAfter}
 use Rattle.model.specs.Listing.{valueAt, joined, listedFirst, listedChange, listedCycle, listingOf, listing, printedFor, printed}
 use Rattle.model.specs.Demands.{Demand2, Places, Working, Trace, end, next, Demand3}
 use Rattle.model.proofs.Refusals.{first-right}
@@ -24,7 +24,7 @@ use Rattle.model.proofs.Chains.{chains-pass, signal-true, signal-test}
 use Rattle.model.proofs.Value.{VAL-follows, VAL-unique}
 use Rattle.model.proofs.Accepted.{net-accepted, mod-accepted, net-formed, net-size, mod-scheduled}
 use Rattle.model.proofs.Machine.{Near, near-refl}
-use Rattle.model.proofs.Keeping.{kept-places, kept-near, kept-opening, machine-holds-VAL, keeps}
+use Rattle.model.proofs.Keeping.{kept-table, kept-near, kept-opening, machine-holds-VAL, keeps}
 use Rattle.model.proofs.Session.{Like}
 use Rattle.model.proofs.Traces.{Met, demand-3}
 
@@ -67,6 +67,10 @@ module _ (limit : ℕ) (files : Files) (accepted : Accepted limit files) where
   pub value-follows : Follows (networkOf files) (givenOf files) (held (files .STIM)) (valueAt files)
   unfolding valueAt
   value-follows = VAL-follows (networkOf files) accepted-formed accepted-acyclic (givenOf files) (held (files .STIM))
+
+  -- and VAL does so whatever the inputs are
+  pub VAL-follows-always : FollowsAlways (networkOf files) (givenOf files) (VAL (networkOf files) (givenOf files))
+  VAL-follows-always = VAL-follows (networkOf files) accepted-formed accepted-acyclic (givenOf files)
 
   pub value-unique : (table : ℕ → ℕ → ℕ) → Follows (networkOf files) (givenOf files) (held (files .STIM)) table
       → (t s : ℕ) → Signal (networkOf files) s → table t s ≡ valueAt files t s
@@ -129,19 +133,21 @@ module _ (limit : ℕ) (files : Files) (accepted : Accepted limit files) (fixed 
         memory = rw (p .left) near-refl;
       }
 
-  pub session-demand-3 : (cs : List Lent)
-      → Demand3 (Performs fixed (networkOf files) (scheduleOf files) processor slot) (λ w. w) fixed (networkOf files) (scheduleOf files) (givenOf files)
-      (folded fixed (networkOf files) (scheduleOf files) processor slot opened cs) (fresh (givenOf files)) []
-  unfolding fresh network
-  session-demand-3 cs =
+  -- whichever values follow the rules of VAL
+  pub session-demand-3 : (table : List (ℕ → ℕ) → ℕ → ℕ) → FollowsAlways (networkOf files) (givenOf files) table → (cs : List Lent)
+      → Demand3 (Performs fixed (networkOf files) (scheduleOf files) processor slot) (λ w. w) fixed (networkOf files) (scheduleOf files) (givenOf files) table
+      (folded fixed (networkOf files) (scheduleOf files) processor slot opened cs) []
+  unfolding fresh network plainAfter
+  session-demand-3 table follows cs =
       let formed = accepted-formed limit files accepted in
       let acyclic = accepted-acyclic limit files accepted in
       let ok = accepted-scheduled limit files accepted in
       let size = net-size limit (files .NET) (net-accepted limit files accepted) in
-      demand-3 (λ w. w) fixed (networkOf files) (scheduleOf files) processor slot (Near (scheduleOf files)) (givenOf files)
-      (keeps formed acyclic ok (givenOf files) processor slot placed) (kept-places formed acyclic ok (givenOf files)) (kept-near formed acyclic ok (givenOf files))
+      demand-3 (λ w. w) fixed (networkOf files) (scheduleOf files) processor slot (Near (scheduleOf files)) (givenOf files) table
+      (keeps formed acyclic ok (givenOf files) table follows processor slot placed) (kept-table formed acyclic ok (givenOf files) table follows)
+      (kept-near formed acyclic ok (givenOf files))
       (Performs fixed (networkOf files) (scheduleOf files) processor slot) (λ b. Unit {0}) (λ b c a b′ g. performs-met b c a b′) (λ b c a b′ g p. tt)
-      (folded fixed (networkOf files) (scheduleOf files) processor slot opened cs) (fresh (givenOf files)) []
+      (folded fixed (networkOf files) (scheduleOf files) processor slot opened cs) []
       (record {
         good = tt;
         head = like-refl (networkOf files) (fresh (givenOf files));

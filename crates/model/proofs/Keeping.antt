@@ -3,13 +3,13 @@ use Prim.Native.Nat.{ℕ}
 use mathlib.Core.Path.{_≡_, refl, sym, _∙_}
 use mathlib.Core.List.{List, [], _∷_}
 use Rattle.model.specs.Network.{Network, Signal}
-use Rattle.model.specs.Value.{Step, start, VAL}
+use Rattle.model.specs.Value.{Step, start, VAL, FollowsAlways}
 use Rattle.model.specs.Module.{Module, At}
 use Rattle.model.specs.Machine.{Memory, cycle, opening, after}
 use Rattle.model.specs.Session.{plain, lockstep}
 use Rattle.model.specs.Demands.{Places}
 use Rattle.model.proofs.Conditions.{Formed, Acyclic, Scheduled}
-use Rattle.model.proofs.Value.{SameInputs, next-step}
+use Rattle.model.proofs.Value.{SameInputs, next-step, table-unique}
 use Rattle.model.proofs.Machine.{Holds, Near, next-cycle, at-start, at-signal, holds-near}
 use Rattle.model.proofs.Session.{KeepStep}
 
@@ -55,13 +55,18 @@ module _ {n : Network} {m : Module} (formed : Formed n) (acyclic : Acyclic n) (o
   pub machine-holds-VAL : (rows : List (ℕ → ℕ)) → Places n m (after n m (opening m (start n given)) rows) (VAL n given rows)
   machine-holds-VAL rows = kept-places _ rows (kept-after rows)
 
-  -- the machine keeps step with the plain session, a signal being read wherever it is placed
-  module _ (processor slot : ℕ → ℕ)
-      (placed : (s : ℕ) → Signal n s → At m (processor s) (slot s) × (m .signal (processor s) (slot s) ≡ s)) where
-    abbrev pub keeps : KeepStep n (lockstep n m processor slot) (plain n given)
-    keeps =
-        record {
-          R = Kept;
-          step = kept-cycle;
-          same = λ w rows k s g. kept-places w rows k s (processor s) (slot s) g (placed s g .0) (placed s g .1);
-        }
+  -- values that follow the rules are at the places too
+  module _ (table : List (ℕ → ℕ) → ℕ → ℕ) (follows : FollowsAlways n given table) where
+    pub kept-table : (w : Memory) (rows : List (ℕ → ℕ)) → Kept w rows → Places n m w (table rows)
+    kept-table w rows k s p i g a is = kept-places w rows k s p i g a is ∙ sym (table-unique n formed acyclic given table follows rows s g)
+
+    -- and the machine keeps step with the plain session, a signal being read wherever it is placed
+    module _ (processor slot : ℕ → ℕ)
+        (placed : (s : ℕ) → Signal n s → At m (processor s) (slot s) × (m .signal (processor s) (slot s) ≡ s)) where
+      abbrev pub keeps : KeepStep n (lockstep n m processor slot) (plain table)
+      keeps =
+          record {
+            R = Kept;
+            step = kept-cycle;
+            same = λ w rows k s g. kept-table w rows k s (processor s) (slot s) g (placed s g .0) (placed s g .1);
+          }

@@ -11,7 +11,7 @@ pub mod Halves
 pub mod Session
 pub mod Keeping
 pub mod Runs
-pub mod Traces
 pub mod Inputs
+pub mod Traces
 pub mod Demands
 pub mod Trials

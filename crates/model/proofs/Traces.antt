@@ -1,19 +1,19 @@
 -- Demand 3 over any trace of calls: what the calls' contracts give of each call, on the buffers as the last one left them, gives the
 -- claim of the list. The idea: heads that are alike and a memory that keeps step with the plain session's rows, call after call.
 use Prim.Native.Nat.{ℕ, zero, suc, _+_}
-use mathlib.Core.Path.{_≡_, _∙_}
+use mathlib.Core.Path.{_≡_, refl, sym, subst, _∙_, ap, fun-ext}
 use mathlib.Core.Bool.{Bool, true, false}
-use mathlib.Core.List.{List, _∷_}
+use mathlib.Core.List.{List, _∷_, _++_}
 use native.Mathlib.Omega.{arith}
-use lib.ListN.{length}
+use lib.ListN.{length, replicate}
 use Rattle.model.specs.Refusal.{Check, pass, fail}
 use Rattle.model.specs.Network.{Network, Signal}
-use Rattle.model.specs.Value.{VAL}
 use Rattle.model.specs.Module.{Module}
 use Rattle.model.specs.Machine.{Memory, cycle}
-use Rattle.model.specs.Session.{plain, lockstep, watched, Head, Call, set, watch, read, run, Lengths, Lent, Answer, Run, unlessStopped, runs, Outcome, lentCheck, running, perform, meet, outcome}
+use Rattle.model.specs.Session.{plain, lockstep, watched, Head, Call, set, watch, read, run, Lengths, Lent, Answer, Run, unlessStopped, runs, ticks, Outcome, lentCheck, running, perform, meet, outcome, plainAfter, lastSet}
 use Rattle.model.specs.Demands.{Places, Working, Trace, end, next, Agrees, Inside, Demand3}
 use Rattle.model.proofs.Session.{Like, like-trans, KeepStep, outcome-alike, ticks-alike}
+use Rattle.model.proofs.Inputs.{copies-more, hand-last-set, rows-last-set}
 
 -- a run adds a row for each of its cycles
 module _ (row : ℕ → ℕ) (stops : List (ℕ → ℕ) → Bool) where
@@ -30,24 +30,30 @@ module _ (row : ℕ → ℕ) (stops : List (ℕ → ℕ) → Bool) where
       omega (arith, stop-rows (stops (row ∷ rows)) (row ∷ rows) (runs (λ y. row ∷ y) stops k (row ∷ rows)) (run-rows k (row ∷ rows)))
 
 -- "a row of input values for each cycle from 1 to t"
-module _ (fixed : Lengths) (n : Network) (given : ℕ → ℕ) where
+module _ (fixed : Lengths) (n : Network) (table : List (ℕ → ℕ) → ℕ → ℕ) where
   perform-rows : (h : Head) (rows : List (ℕ → ℕ)) (c : Call) → length rows ≡ h .finished
-      → length (perform fixed n (plain n given) h rows c .state) ≡ perform fixed n (plain n given) h rows c .head .finished
+      → length (perform fixed n (plain table) h rows c .state) ≡ perform fixed n (plain table) h rows c .head .finished
   unfolding perform running
   perform-rows h rows (set s v) e = e
   perform-rows h rows (watch s mask) e = e
   perform-rows h rows (read s) e = e
   perform-rows h rows (run k) e =
-      omega (arith, run-rows (h .hand) (λ y. watched (h .watch .mask) (VAL n given y (h .watch .signal))) k rows)
+      omega (arith, run-rows (h .hand) (λ y. watched (h .watch .mask) (table y (h .watch .signal))) k rows)
 
   pub outcome-rows : (h : Head) (rows : List (ℕ → ℕ)) (c : Lent) → length rows ≡ h .finished
-      → length (outcome fixed n (plain n given) h rows c .state) ≡ outcome fixed n (plain n given) h rows c .head .finished
+      → length (outcome fixed n (plain table) h rows c .state) ≡ outcome fixed n (plain table) h rows c .head .finished
   unfolding outcome meet
   outcome-rows h rows c e = go (lentCheck fixed n (h .finished) c)
     where
-      go : (k : Check) → length (meet fixed n (plain n given) h rows (c .call) k .state) ≡ meet fixed n (plain n given) h rows (c .call) k .head .finished
+      go : (k : Check) → length (meet fixed n (plain table) h rows (c .call) k .state) ≡ meet fixed n (plain table) h rows (c .call) k .head .finished
       go pass = perform-rows h rows (c .call) e
       go (fail x y) = e
+
+-- j cycles of the plain session
+copied : (row : ℕ → ℕ) (j : ℕ) (rows : List (ℕ → ℕ)) → ticks (λ r. row ∷ r) j rows ≡ replicate j row ++ rows
+unfolding ticks
+copied row zero rows = refl
+copied row (suc j) rows = copied row j (row ∷ rows) ∙ copies-more row j rows
 
 -- a call met its contract: its answer, and the buffers that it leaves, are those of the session over the machine. Close says which
 -- memories count as one: those that agree at the module's locations.
@@ -61,8 +67,8 @@ module _ {Buffers : Type 0} (decode : Buffers → Working) (fixed : Lengths) (n 
     pub head : Like n (decode b′ .head) (machined b c .head)
     pub memory : Close (decode b′ .memory) (machined b c .state)
 
-  module _ (given : ℕ → ℕ) (K : KeepStep n (lockstep n m processor slot) (plain n given))
-      (places : (w : Memory) (rows : List (ℕ → ℕ)) → K .R w rows → Places n m w (VAL n given rows))
+  module _ (given : ℕ → ℕ) (table : List (ℕ → ℕ) → ℕ → ℕ) (K : KeepStep n (lockstep n m processor slot) (plain table))
+      (places : (w : Memory) (rows : List (ℕ → ℕ)) → K .R w rows → Places n m w (table rows))
       (close : (w u : Memory) (rows : List (ℕ → ℕ)) → Close w u → K .R u rows → K .R w rows)
       (Post : Buffers → Lent → Answer → Buffers → Type 0) (Good : Buffers → Type 0)
       (meets : (b : Buffers) (c : Lent) (a : Answer) (b′ : Buffers) → Good b → Post b c a b′ → Met b c a b′)
@@ -75,33 +81,53 @@ module _ {Buffers : Type 0} (decode : Buffers → Working) (fixed : Lengths) (n 
       pub watching : Signal n (h .watch .signal)
       pub rows-finished : length rows ≡ h .finished
 
-    agrees : (b : Buffers) (h : Head) (rows : List (ℕ → ℕ)) → InStep b h rows → Agrees Post decode fixed n m given b h rows
-    agrees b h rows i =
-        record { finished = i .head .finished; rows-finished = i .rows-finished; places = places (decode b .memory) rows (i .memory) }
+    -- the plain session after the calls so far
+    abbrev session : List Lent → Outcome (List (ℕ → ℕ))
+    session calls = plainAfter fixed n given table calls
 
-    inside : (b : Buffers) (a : Answer) (h : Head) (rows : List (ℕ → ℕ)) → InStep b h rows → Inside Post decode fixed n m given b a h rows
-    inside b a h rows i j l =
-        places _ _
-        (ticks-alike (cycle n m (decode b .head .hand)) (λ r. h .hand ∷ r) (K .R) (K .step (decode b .head .hand) (h .hand) (i .head .hand)) j
-        (decode b .memory) rows (i .memory))
+    abbrev After : Buffers → List Lent → Type 0
+    After b calls = InStep b (session calls .head) (session calls .state)
 
-    pub demand-3 : {b : Buffers} {cs : List Lent} (t : Trace Post b cs) (h : Head) (rows : List (ℕ → ℕ)) → InStep b h rows
-        → Demand3 Post decode fixed n m given t h rows
-    unfolding Demand3
-    demand-3 (end {b}) h rows i = agrees b h rows i
-    demand-3 (next {b} {c} a b′ p rest) h rows i =
+    agrees : (b : Buffers) (calls : List Lent) → After b calls → Agrees Post decode fixed n m given table b calls
+    agrees b calls i =
+        let set = rows-last-set fixed n given table calls in
+        record {
+          finished = i .head .finished;
+          rows = set;
+          rows-finished = ap length (sym set) ∙ i .rows-finished;
+          places = subst (λ (r : List (ℕ → ℕ)). Places n m (decode b .memory) (table r)) set (places (decode b .memory) (session calls .state) (i .memory));
+        }
+
+    inside : (b : Buffers) (a : Answer) (calls : List Lent) → After b calls → Inside Post decode fixed n m given table b a calls
+    inside b a calls i j l =
+        let hand = session calls .head .hand in
+        subst (λ (r : List (ℕ → ℕ)). Places n m (ticks (cycle n m (decode b .head .hand)) j (decode b .memory)) (table r))
+        (copied hand j (session calls .state)
+        ∙ ap (λ (row : ℕ → ℕ). replicate j row ++ session calls .state) (fun-ext (hand-last-set fixed n given table calls))
+        ∙ ap (λ (r : List (ℕ → ℕ)). replicate j (lastSet fixed n given table calls) ++ r) (rows-last-set fixed n given table calls))
+        (places _ _
+        (ticks-alike (cycle n m (decode b .head .hand)) (λ r. hand ∷ r) (K .R) (K .step (decode b .head .hand) hand (i .head .hand)) j
+        (decode b .memory) (session calls .state) (i .memory)))
+
+    pub demand-3 : {b : Buffers} {cs : List Lent} (t : Trace Post b cs) (calls : List Lent) → After b calls
+        → Demand3 Post decode fixed n m given table t calls
+    unfolding Demand3 plainAfter
+    demand-3 (end {b}) calls i = agrees b calls i
+    demand-3 (next {b} {c} a b′ p rest) calls i =
+        let h = session calls .head in
+        let rows = session calls .state in
         let met = meets b c a b′ (i .good) p in
-        let o = outcome-alike fixed n (lockstep n m processor slot) (plain n given) K (decode b .head) h (decode b .memory) rows c (i .head) (i .memory) (i .watching) in
-        let told = outcome fixed n (plain n given) h rows c in (
-          agrees b h rows i,
+        let o = outcome-alike fixed n (lockstep n m processor slot) (plain table) K (decode b .head) h (decode b .memory) rows c (i .head) (i .memory) (i .watching) in
+        let told = outcome fixed n (plain table) h rows c in (
+          agrees b calls i,
           met .answer ∙ o .answer,
-          inside b a h rows i,
-          demand-3 rest (told .head) (told .state)
+          inside b a calls i,
+          demand-3 rest (c ∷ calls)
               (record {
                 good = stays b c a b′ (i .good) p;
                 head = like-trans n (decode b′ .head) (machined b c .head) (told .head) (met .head) (o .head);
                 memory = close (decode b′ .memory) (machined b c .state) (told .state) (met .memory) (o .state);
                 watching = o .watching;
-                rows-finished = outcome-rows fixed n given h rows c (i .rows-finished);
+                rows-finished = outcome-rows fixed n table h rows c (i .rows-finished);
               }),
         )

@@ -1,20 +1,21 @@
 -- VAL follows the rules of 01, no other table does, and it gives codes on codes. The first two go by induction on the walks of
 -- `Chains.antt`: a source of a rank-order gate ends shorter walks than the gate, and where no chain is closed no walk has N steps.
 use Prim.Native.Nat.{ℕ, zero, suc, _≤_, _<_}
-use mathlib.Core.Path.{_≡_, refl, sym, _∙_}
+use mathlib.Core.Path.{_≡_, refl, sym, subst, _∙_}
 use mathlib.Core.Bool.{Bool, true, false}
 use mathlib.Core.List.{List, [], _∷_}
 use mathlib.Core.Logic.{⊎-elim}
 use native.Mathlib.Omega.{arith}
 use native.Mathlib.Decide.{ℕ-discrete}
 use lib.Dec.{eqb}
-use borrow.Author.Tests.{eqb-true, ne-eqb}
+use lib.ListN.{length}
+use borrow.Author.Tests.{eqb-true, eq-eqb, ne-eqb}
 use Rattle.logic.specs.Choice.{if_then_else_}
 use Rattle.gates.specs.Value.{Code}
 use Rattle.gates.proofs.Legal.{gate-code}
 use Rattle.model.specs.Network.{Network, Signal, input, rankOrder}
 use Rattle.model.specs.Netlist.{network, codes}
-use Rattle.model.specs.Value.{valueOf, evaluate, Step, start, Follows, driven, settle, next, VAL, history}
+use Rattle.model.specs.Value.{valueOf, evaluate, Step, start, Follows, driven, settle, next, VAL, history, FollowsAlways}
 use Rattle.model.proofs.Conditions.{Formed, Acyclic, Same}
 use Rattle.model.proofs.Chains.{Walk, here, on, walk-signal, walk-rank, no-long-walk}
 
@@ -50,6 +51,22 @@ pub data SameRows (n : Network) : List (ℕ → ℕ) → List (ℕ → ℕ) → 
   same-none : SameRows n [] []
   same-more : {row row′ : ℕ → ℕ} {rows rows′ : List (ℕ → ℕ)} → SameInputs n row row′ → SameRows n rows rows′
       → SameRows n (row ∷ rows) (row′ ∷ rows′)
+
+-- a list of rows, the last first, by the number of the cycle
+rowOf : List (ℕ → ℕ) → ℕ → ℕ → ℕ
+rowOf [] t = λ s. 0
+rowOf (row ∷ rows) t = if eqb t (suc (length rows)) then row else rowOf rows t
+
+earlier-rows : (row : ℕ → ℕ) (rows : List (ℕ → ℕ)) (t : ℕ) → t ≤ length rows → history (rowOf (row ∷ rows)) t ≡ history (rowOf rows) t
+unfolding history rowOf
+earlier-rows row rows zero h = refl
+earlier-rows row rows (suc t) h =
+    rw (ne-eqb (suc t) (suc (length rows)) (λ (e : suc t ≡ suc (length rows)). omega arith), earlier-rows row rows t (omega arith))
+
+rows-back : (rows : List (ℕ → ℕ)) → history (rowOf rows) (length rows) ≡ rows
+unfolding history rowOf
+rows-back [] = refl
+rows-back (row ∷ rows) = rw (eq-eqb (suc (length rows)) (suc (length rows)) refl, earlier-rows row rows (length rows) (omega arith), rows-back rows)
 
 -- no walk of d steps ends at s
 abbrev Within : Network → ℕ → ℕ → Type 0
@@ -151,6 +168,13 @@ module _ (n : Network) (formed : Formed n) where
     VAL-unique given row table follows (suc t) s g =
         step-unique (row (suc t)) (table t) (VAL n given (history row t)) (table (suc t)) (VAL n given (history row (suc t)))
         (VAL-unique given row table follows t) (follows .at-step t) (VAL-follows given row .at-step t) s g
+
+    -- values that follow the rules whatever the inputs are, are VAL
+    pub table-unique : (given : ℕ → ℕ) (table : List (ℕ → ℕ) → ℕ → ℕ) → FollowsAlways n given table
+        → (rows : List (ℕ → ℕ)) → Same n (table rows) (VAL n given rows)
+    table-unique given table follows rows s g =
+        subst (λ (r : List (ℕ → ℕ)). table r s ≡ VAL n given r s) (rows-back rows)
+        (VAL-unique given (rowOf rows) (λ t. table (history (rowOf rows) t)) (follows (rowOf rows)) (length rows) s g)
 
     pub VAL-same : (given given′ : ℕ → ℕ) → Same n given given′ → {rows rows′ : List (ℕ → ℕ)} → SameRows n rows rows′
         → Same n (VAL n given rows) (VAL n given′ rows′)

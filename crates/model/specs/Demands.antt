@@ -1,17 +1,17 @@
 -- Demands 2 and 3 of the request, to be held against its sentences.
 use Prim.Native.Nat.{ℕ, _≤_}
 use mathlib.Core.Path.{_≡_}
-use mathlib.Core.List.{List, [], _∷_}
-use lib.ListN.{length}
+use mathlib.Core.List.{List, [], _∷_, _++_}
+use lib.ListN.{length, replicate}
 use Rattle.model.specs.Refusal.{fail}
 use Rattle.model.specs.Files.{Files}
 use Rattle.model.specs.Network.{Network, Signal}
-use Rattle.model.specs.Value.{Follows, VAL}
+use Rattle.model.specs.Value.{Follows}
 use Rattle.model.specs.Module.{Module, At}
 use Rattle.model.specs.Machine.{Memory, cycle}
 use Rattle.model.specs.Stimulus.{held, endTime}
 use Rattle.model.specs.Acceptance.{networkOf, givenOf, fileCheck, Accepted}
-use Rattle.model.specs.Session.{plain, Head, Lengths, Lent, Answer, Outcome, outcome, ticks, cyclesDone}
+use Rattle.model.specs.Session.{Head, Lengths, Lent, Answer, Outcome, ticks, cyclesDone, plainAfter, lastSet, rowsSet}
 use Rattle.model.specs.Listing.{listingOf, refusalLine}
 
 -- Demand 2, of what is printed for any files.
@@ -40,31 +40,34 @@ module _ {Buffers : Type 0} (Post : Buffers → Lent → Answer → Buffers → 
     end : {b : Buffers} → Trace b []
     next : {b : Buffers} {c : Lent} {cs : List Lent} (a : Answer) (b′ : Buffers) → Post b c a b′ → Trace b′ cs → Trace b (c ∷ cs)
 
-  module _ (decode : Buffers → Working) (fixed : Lengths) (n : Network) (m : Module) (given : ℕ → ℕ) where
-    -- the plain session's outcome of a call
-    abbrev told : Head → List (ℕ → ℕ) → Lent → Outcome (List (ℕ → ℕ))
-    told h rows c = outcome fixed n (plain n given) h rows c
+  -- The plain session is fed the files and the calls: given has the time 0 values, table tells VAL by the rows of the inputs' values.
+  module _ (decode : Buffers → Working) (fixed : Lengths) (n : Network) (m : Module) (given : ℕ → ℕ) (table : List (ℕ → ℕ) → ℕ → ℕ) where
+    -- the plain session after the calls so far, the last first
+    abbrev told : List Lent → Outcome (List (ℕ → ℕ))
+    told calls = plainAfter fixed n given table calls
 
-    -- "After the list, and at the end of every cycle on the way": the cycles finished and the places, the plain session having the
-    -- head h and the rows
-    pub record Agrees (b : Buffers) (h : Head) (rows : List (ℕ → ℕ)) : Type 0 where
-      pub finished : decode b .head .finished ≡ h .finished
-      pub rows-finished : length rows ≡ h .finished
-      pub places : Places n m (decode b .memory) (VAL n given rows)
+    -- "each input taken in every cycle as last set before it, or as at cycle 0 if not set by then"
+    abbrev inputs : List Lent → List (ℕ → ℕ)
+    inputs calls = rowsSet fixed n given table calls
+
+    -- "After the list, and at the end of every cycle on the way, .. the place of every signal s holds VAL(s,t), t being the cycles finished"
+    pub record Agrees (b : Buffers) (calls : List Lent) : Type 0 where
+      pub finished : decode b .head .finished ≡ told calls .head .finished
+      pub rows : told calls .state ≡ inputs calls
+      pub rows-finished : length (inputs calls) ≡ told calls .head .finished
+      pub places : Places n m (decode b .memory) (table (inputs calls))
 
     -- "inside a run too": the memory after the j-th cycle of a call is what j cycles of the machine, "fed the input values that the
     -- session holds for its next cycle, make of the memory as the run got it"
-    abbrev pub Inside : Buffers → Answer → Head → List (ℕ → ℕ) → Type 0
-    Inside b a h rows =
+    abbrev pub Inside : Buffers → Answer → List Lent → Type 0
+    Inside b a calls =
         (j : ℕ) → j ≤ cyclesDone a
-        → Places n m (ticks (cycle n m (decode b .head .hand)) j (decode b .memory)) (VAL n given (ticks (λ r. h .hand ∷ r) j rows))
+        → Places n m (ticks (cycle n m (decode b .head .hand)) j (decode b .memory))
+        (table (replicate j (lastSet fixed n given table calls) ++ inputs calls))
 
-    -- Demand 3 of a list of calls: "Every answer in the list, refusals included, and the number of cycles finished after each call
-    -- equal those of the plain session", and the places hold VAL throughout
-    unfoldable pub Demand3 : {b : Buffers} {cs : List Lent} → Trace b cs → Head → List (ℕ → ℕ) → Type 0
-    Demand3 (end {b}) h rows = Agrees b h rows
-    Demand3 (next {b} {c} a b′ p rest) h rows =
-        Agrees b h rows
-        × (a ≡ told h rows c .answer)
-        × Inside b a h rows
-        × Demand3 rest (told h rows c .head) (told h rows c .state)
+    -- Demand 3 of a list of calls, others being made before it: "Every answer in the list, refusals included, and the number of cycles
+    -- finished after each call equal those of the plain session", and the places hold VAL throughout
+    unfoldable pub Demand3 : {b : Buffers} {cs : List Lent} → Trace b cs → List Lent → Type 0
+    Demand3 (end {b}) calls = Agrees b calls
+    Demand3 (next {b} {c} a b′ p rest) calls =
+        Agrees b calls × (a ≡ told (c ∷ calls) .answer) × Inside b a calls × Demand3 rest (c ∷ calls)

@@ -1,13 +1,13 @@
--- The session of 01 over any engine, and the plain session, whose engine keeps the rows and reads VAL.
+-- The session of 01 over any engine, and the plain session, whose engine keeps the rows of the inputs' values.
 use Prim.Native.Nat.{ℕ, zero, suc, _+_, _/_, _%_, _^_}
 use mathlib.Core.Bool.{Bool, true, false}
-use mathlib.Core.List.{List, [], _∷_}
+use mathlib.Core.List.{List, [], _∷_, _++_}
 use lib.Dec.{eqb, leb}
+use lib.ListN.{replicate}
 use Rattle.logic.specs.Test.{_and_}
 use Rattle.logic.specs.Choice.{if_then_else_}
 use Rattle.model.specs.Refusal.{Check, pass, fail, first, unless}
 use Rattle.model.specs.Network.{Network, input, isSignal}
-use Rattle.model.specs.Value.{VAL}
 use Rattle.model.specs.Module.{Module}
 use Rattle.model.specs.Machine.{Memory, cycle}
 
@@ -17,10 +17,10 @@ pub record Engine : Type 1 where
   pub tick : (ℕ → ℕ) → State → State
   pub value : State → ℕ → ℕ
 
--- "a row of input values for each cycle from 1 to t", the last first. "VAL up to t follows from the network, the time 0 values and
--- the rows."
-abbrev pub plain : Network → (ℕ → ℕ) → Engine
-plain n given = record { State = List (ℕ → ℕ); tick = λ row rows. row ∷ rows; value = VAL n given }
+-- The plain session's: it keeps "a row of input values for each cycle from 1 to t", the last first. "VAL up to t follows from the
+-- network, the time 0 values and the rows": table tells it by the rows.
+abbrev pub plain : (List (ℕ → ℕ) → ℕ → ℕ) → Engine
+plain table = record { State = List (ℕ → ℕ); tick = λ row rows. row ∷ rows; value = table }
 
 -- the lockstep machine: it reads a signal at its place, which processor and slot give
 abbrev pub lockstep : Network → Module → (ℕ → ℕ) → (ℕ → ℕ) → Engine
@@ -145,13 +145,6 @@ cyclesDone done = 0
 cyclesDone (value v) = 0
 cyclesDone (ran count stopped) = count
 
--- The plain session after a list of calls, the last first.
-unfoldable pub plainAfter : Lengths → Network → (ℕ → ℕ) → List Lent → Outcome (List (ℕ → ℕ))
-plainAfter fixed n given [] = record { answer = done; head = fresh given; state = [] }
-plainAfter fixed n given (c ∷ before) =
-    let s = plainAfter fixed n given before in
-    outcome fixed n (plain n given) (s .head) (s .state) c
-
 -- the value that a call gives to s in hand, where it held old: an accepted setting of s replaces it, and "A setting that is refused
 -- sets nothing."
 unfoldable pub setBy : Call → Check → ℕ → ℕ → ℕ
@@ -161,8 +154,19 @@ setBy (watch x mask) check s old = old
 setBy (read x) check s old = old
 setBy (run k) check s old = old
 
--- each input "as last set" by a list of calls, the last first, "or as at cycle 0 if not set by then"
-unfoldable pub lastSet : Lengths → Network → (ℕ → ℕ) → List Lent → ℕ → ℕ
-lastSet fixed n given [] s = given s
-lastSet fixed n given (c ∷ before) s =
-    setBy (c .call) (lentCheck fixed n (plainAfter fixed n given before .head .finished) c) s (lastSet fixed n given before s)
+-- A list of calls, the last first, from a fresh session on
+module _ (fixed : Lengths) (n : Network) (given : ℕ → ℕ) (table : List (ℕ → ℕ) → ℕ → ℕ) where
+  -- the plain session after it
+  unfoldable pub plainAfter : List Lent → Outcome (List (ℕ → ℕ))
+  plainAfter [] = record { answer = done; head = fresh given; state = [] }
+  plainAfter (c ∷ before) = let s = plainAfter before in outcome fixed n (plain table) (s .head) (s .state) c
+
+  -- each input "as last set" by it, "or as at cycle 0 if not set by then"
+  unfoldable pub lastSet : List Lent → ℕ → ℕ
+  lastSet [] s = given s
+  lastSet (c ∷ before) s = setBy (c .call) (lentCheck fixed n (plainAfter before .head .finished) c) s (lastSet before s)
+
+  -- "each input taken in every cycle as last set before it": a row for each cycle that its calls did, the last first
+  unfoldable pub rowsSet : List Lent → List (ℕ → ℕ)
+  rowsSet [] = []
+  rowsSet (c ∷ before) = replicate (cyclesDone (plainAfter (c ∷ before) .answer)) (lastSet before) ++ rowsSet before

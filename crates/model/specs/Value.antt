@@ -59,3 +59,7 @@ VAL n given (row ∷ rows) s = next n row (VAL n given rows) s
 unfoldable pub history : (ℕ → ℕ → ℕ) → ℕ → List (ℕ → ℕ)
 history row zero = []
 history row (suc t) = row (suc t) ∷ history row t
+
+-- Values told by the inputs' values of the cycles finished, the last first, follow the rules, whatever these inputs are
+abbrev pub FollowsAlways : Network → (ℕ → ℕ) → (List (ℕ → ℕ) → ℕ → ℕ) → Type 0
+FollowsAlways n given table = (row : ℕ → ℕ → ℕ) → Follows n given row (λ t. table (history row t))

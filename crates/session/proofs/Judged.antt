@@ -1,7 +1,7 @@
 -- What the buffers' lengths and ranges tell a call, and back.
 use Prim.Native.Nat.{ℕ, _≤_, _<_}
-use mathlib.Core.Path.{_≡_, refl, sym, _∙_, ap}
-use mathlib.Core.Bool.{Bool, true, false, false≢true}
+use mathlib.Core.Path.{_≡_, refl, sym, subst, _∙_}
+use mathlib.Core.Bool.{Bool, true, false}
 use lib.ListN.{length}
 use Rattle.logic.specs.Choice.{if_then_else_}
 use Rattle.model.specs.Session.{sameLengths}
@@ -42,26 +42,36 @@ module _ (b : Buffers) where
   unfolding readyOf
   in-range l e = rw (l, e)
 
--- right buffers have their lengths, and their numbers are in range
-isRight : Ready → Bool
-isRight Right = true
-isRight WrongLength = false
-isRight OutOfRange = false
+-- what each finding of the code means of the buffers
+abbrev Means : Buffers → Ready → Type 0
+Means b Right = (sameLengths (lengthsOf b) fixed ≡ true) × (inRange b ≡ true)
+Means b WrongLength = sameLengths (lengthsOf b) fixed ≡ false
+Means b OutOfRange = (sameLengths (lengthsOf b) fixed ≡ true) × (inRange b ≡ false)
 
-right-buffers : (b : Buffers) → readyOf b ≡ Right → Sizes b × (inRange b ≡ true)
-unfolding readyOf isRight
-right-buffers b = go (sameLengths (lengthsOf b) fixed) refl (inRange b) refl
+means : (b : Buffers) (k : Ready) → readyOf b ≡ k → Means b k
+unfolding readyOf
+means b k e = subst (Means b) e (go (sameLengths (lengthsOf b) fixed) refl (inRange b) refl)
   where
     go : (s : Bool) → sameLengths (lengthsOf b) fixed ≡ s → (r : Bool) → inRange b ≡ r
-        → (if s then (if r then Right else OutOfRange) else WrongLength) ≡ Right → Sizes b × (inRange b ≡ true)
-    go true e true f h = (same-sizes _ _ _ e, f)
-    go true e false f h = absurd (false≢true (ap isRight h))
-    go false e r f h = absurd (false≢true (ap isRight h))
+        → Means b (if s then (if r then Right else OutOfRange) else WrongLength)
+    go true e true f = (e, f)
+    go true e false f = (e, f)
+    go false e r f = e
+
+module _ (b : Buffers) (r : Ready) (judged : r ≡ readyOf b) where
+  pub found-wrong : r ≡ WrongLength → sameLengths (lengthsOf b) fixed ≡ false
+  found-wrong e = means b WrongLength (sym judged ∙ e)
+
+  pub found-out : r ≡ OutOfRange → (sameLengths (lengthsOf b) fixed ≡ true) × (inRange b ≡ false)
+  found-out e = means b OutOfRange (sym judged ∙ e)
 
 -- what the code goes by where it judged them right
 module _ (b : Buffers) (r : Ready) (judged : r ≡ readyOf b) (e : r ≡ Right) where
   right-both : Sizes b × (inRange b ≡ true)
-  right-both = right-buffers b (sym judged ∙ e)
+  right-both = let both = means b Right (sym judged ∙ e) in (same-sizes _ _ _ (both .0), both .1)
+
+  pub right-range : inRange b ≡ true
+  right-range = right-both .1
 
   pub right-sizes : Sizes b
   right-sizes = right-both .0

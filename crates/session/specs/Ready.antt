@@ -7,7 +7,7 @@ use Rattle.model.specs.Machine.{Memory}
 use Rattle.model.specs.Session.{sameLengths, Outcome}
 use Rattle.ranges.specs.Ranges.{ranged}
 use Rattle.answers.specs.Answers.{answerBits}
-use Rattle.header.specs.Header.{withHead}
+use Rattle.header.specs.Header.{headIn, withHead}
 use Rattle.lengths.specs.Lengths.{fixed}
 use Rattle.session.specs.declared.Ready.{Ready}
 use Rattle.session.specs.declared.Ready.the-variants.{Right, WrongLength, OutOfRange}
@@ -19,7 +19,8 @@ readyOf b =
     (if ranged (b .panel) (b .program) (b .memory) then Right else OutOfRange) else
     WrongLength
 
--- the bits that a call answers, and the panel that it leaves, are those of an outcome
+-- the bits that a call answers, and the panel that it leaves, are those of an outcome; the panel's own head, written back, changes no byte
 pub record Writes (o : Outcome Memory) (panel : List ℕ) (bits : ℕ) (left : List ℕ) : Type 0 where
   pub answer : bits ≡ answerBits (o .answer)
   pub written : left ≡ withHead (o .head) panel
+  pub own : withHead (headIn panel) panel ≡ panel

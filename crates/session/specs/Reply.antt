@@ -1,9 +1,9 @@
 -- What a session call answers and leaves, on any buffers of any lengths (01, Session and Refusals).
 use Prim.Native.Nat.{ℕ}
-use mathlib.Core.Bool.{true, false}
 use mathlib.Core.List.{List}
+use Rattle.model.specs.Refusal.{Check, pass, fail, first, unless}
 use Rattle.model.specs.Machine.{Memory}
-use Rattle.model.specs.Session.{lockstep, Call, Lengths, sameLengths, Answer, refused, Outcome, outcome}
+use Rattle.model.specs.Session.{lockstep, Call, Lengths, sameLengths, Answer, refused, Outcome, callCheck, perform}
 use Rattle.memory.specs.Memory.{memoryOf, held}
 use Rattle.tables.specs.Panel.{processorsIn, slotsIn, processorIn, slotIn}
 use Rattle.tables.specs.Tables.{networkIn, moduleIn}
@@ -29,17 +29,19 @@ pub record Reply : Type 0 where
   pub answer : Answer
   pub buffers : Buffers
 
--- "A refused session call changes no byte"
-abbrev pub refusing : ℕ → Buffers → Reply
-refusing number b = record { answer = refused number 0; buffers = b }
+-- "Session calls: 40, 44, 41, 42, 43.", on the network and the head that the buffers hold
+abbrev pub replyCheck : Buffers → Call → Check
+replyCheck b c =
+    first (unless (sameLengths (lengthsOf b) fixed) 40 0)
+    (first (unless (ranged (b .panel) (b .program) (b .memory)) 44 0)
+    (callCheck (networkIn (b .panel) (b .program)) (headIn (b .panel) .finished) c))
 
--- the session over the machine that the buffers hold: 41 to 43, or what the call does
-abbrev pub outcomeIn : Buffers → Call → Outcome Memory
-outcomeIn b c =
+-- what the session over the machine in the buffers does with a call that is not refused
+abbrev pub performed : Buffers → Call → Outcome Memory
+performed b c =
     let n = networkIn (b .panel) (b .program) in
     let m = moduleIn (b .panel) (b .program) in
-    outcome fixed n (lockstep n m (processorIn (b .panel)) (slotIn (b .panel))) (headIn (b .panel)) (memoryOf (b .memory))
-    (record { lengths = lengthsOf b; call = c })
+    perform fixed n (lockstep n m (processorIn (b .panel)) (slotIn (b .panel))) (headIn (b .panel)) (memoryOf (b .memory)) c
 
 -- the buffers with an outcome written into them: the head into the panel, the memory into the module's locations
 abbrev pub leaving : Buffers → Outcome Memory → Buffers
@@ -50,13 +52,10 @@ leaving b o =
       memory = held (processorsIn (b .panel)) (slotsIn (b .panel)) (o .state) (b .memory);
     }
 
--- "Session calls: 40, 44, 41, 42, 43."
+-- "Refused, it answers number and returned value, and all stays."
+unfoldable pub replied : Buffers → Call → Check → Reply
+replied b c pass = record { answer = performed b c .answer; buffers = leaving b (performed b c) }
+replied b c (fail number returned) = record { answer = refused number returned; buffers = b }
+
 unfoldable pub reply : Buffers → Call → Reply
-reply b c =
-    elim (sameLengths (lengthsOf b) fixed) [
-      | true ↦ elim (ranged (b .panel) (b .program) (b .memory)) [
-        | true ↦ record { answer = outcomeIn b c .answer; buffers = leaving b (outcomeIn b c) }
-        | false ↦ refusing 44 b
-      ]
-      | false ↦ refusing 40 b
-    ]
+reply b c = replied b c (replyCheck b c)

@@ -30,8 +30,8 @@ returns c =
     let panel = s .args .panel .now in
     let program = s .args .program .now in
     let memory = s .args .memory .now in
-    let e = c .before .before .before .before .before .before .before .before .before .decode .ensures .0 in
-    (writes panel program memory _ _ e _ (c .before .before .before .before .before .before .run .ensures .0) _ _ (c .before .before .tell .ensures .0) (c .before .before .tell .ensures .1), c .before .before .before .before .before .before .run .ensures .1 ∙ ap (λ (h : Head). held (processorsIn panel) (slotsIn panel) (commanded panel program memory h (run (s .args .cycles)) .state) memory) e)
+    let d = c .before .before .before .before .before .before .before .before .before .decode .ensures in
+    (writes panel program memory _ _ (d .0) (d .1) _ (c .before .before .before .before .before .before .run .ensures .0) _ _ (c .before .before .tell .ensures .0) (c .before .before .tell .ensures .1), c .before .before .before .before .before .before .run .ensures .1 ∙ ap (λ (h : Head). held (processorsIn panel) (slotsIn panel) (commanded panel program memory h (run (s .args .cycles)) .state) memory) (d .0))
 
 pub run-in-spec : {M : Type 1} → statement M
 run-in-spec =
