@@ -24,7 +24,7 @@ use Rattle.engine.proofs.Same.{near-trans}
 use Rattle.engine.proofs.Valued.{written-near}
 use Rattle.demand.specs.Lending.{working, Answered, own, other, Post}
 use Rattle.demand.proofs.Meeting.{inTables, tables-step, tables-outcome}
-use Rattle.demand.proofs.Telling.{own-taken, other-taken, other-stays}
+use Rattle.demand.proofs.Telling.{own-taken, wrong-lent, other-taken, other-same}
 
 -- the session's buffers: right in length and range, and the files' network and module in them
 pub record Good (f : Network) (g : Module) (b : Buffers) : Type 0 where
@@ -102,10 +102,9 @@ module _ {f : Network} {g : Module} (ok : Scheduled f g) (few : g .processors �
           })
       go (other lent left around e l met here there) =
           let wrong = outcome-wrong f machine (headIn (b .panel)) (memoryOf (b .memory)) c l in
-          let not-lent = ap (λ (x : Lengths). sameLengths x fixed) e ∙ l in
-          let same : b′ ≡ b = there ∙ ap around (other-stays lent (c .call) not-lent (p .bits) left met) ∙ sym here in
+          let same = other-same c around e l met here there in
           record {
-            answer = p .taken ∙ other-taken lent (c .call) not-lent (p .bits) left met ∙ sym (ap (λ (x : Outcome Memory). x .answer) wrong);
+            answer = p .taken ∙ other-taken lent (c .call) (wrong-lent lent c e l) (p .bits) left met ∙ sym (ap (λ (x : Outcome Memory). x .answer) wrong);
             head = rw (same, wrong) (record { finished = refl; hand = λ s i k. refl; watch = refl });
             memory = rw (same, wrong) near-refl;
           }

@@ -49,7 +49,7 @@ use Rattle.kept.proofs.Replies.{reply-lengths, reply-ranged, reply-holding}
 use Rattle.demand.specs.Lending.{working, openedBy, Opens, Meets, Answered, own, other, Post, Throughout, EveryCall, numberOf, Every32}
 use Rattle.demand.proofs.Chained.{Good, meets}
 use Rattle.demand.proofs.Refusals.{command-low}
-use Rattle.demand.proofs.Telling.{reply-few, own-taken, other-bits, other-taken, other-stays}
+use Rattle.demand.proofs.Telling.{reply-few, own-taken, wrong-lent, other-bits, other-taken, other-same}
 
 -- equal lengths
 lengths-equal : (a b : Lengths) → a .panel ≡ b .panel → a .program ≡ b .program → a .memory ≡ b .memory → a ≡ b
@@ -103,18 +103,12 @@ module _ (f : Network) (g : Module) where
         few = reply-few b (good .lengths) (good .range) (good .few) c;
       }
 
-  -- the buffers of a call with a wrong length stay
-  other-same : {b b′ lent left : Buffers} {c : Lent} {bits : ℕ} (around : Buffers → Buffers) → lengthsOf lent ≡ c .lengths
-      → sameLengths (c .lengths) fixed ≡ false → Meets lent (c .call) bits left → b ≡ around lent → b′ ≡ around left → b′ ≡ b
-  other-same {lent = lent} {left = left} {c = c} {bits = bits} around e l met here there =
-      there ∙ ap around (other-stays lent (c .call) (ap (λ (x : Lengths). sameLengths x fixed) e ∙ l) bits left met) ∙ sym here
-
   stays : (b : Buffers) (c : Lent) (a : Answer) (b′ : Buffers) → Good f g b → Post b c a b′ → Good f g b′
   stays b c a b′ good p = go (p .answered)
     where
       go : Answered b c (p .bits) b′ → Good f g b′
       go (own e met) = subst (Good f g) (sym (met .leaves)) (reply-stays b (c .call) good)
-      go (other lent left around e l met here there) = subst (Good f g) (sym (other-same around e l met here there)) good
+      go (other lent left around e l met here there) = subst (Good f g) (sym (other-same c around e l met here there)) good
 
   -- the buffers hold the files' network and module throughout, in range
   pub good-throughout : {b : Buffers} {cs : List Lent} → Good f g b → (t : Trace Post b cs) → Throughout (Good f g) t
@@ -146,7 +140,7 @@ module _ (f : Network) (g : Module) where
           (command-low (networkIn (b .panel) (b .program)) _ (headIn (b .panel)) _ (c .call))
       go (other lent left around e l met here there) =
           subst (λ (x : Answer). numberOf x ≤ 43)
-          (sym (p .taken ∙ other-taken lent (c .call) (ap (λ (x : Lengths). sameLengths x fixed) e ∙ l) (p .bits) left met)) forty
+          (sym (p .taken ∙ other-taken lent (c .call) (wrong-lent lent c e l) (p .bits) left met)) forty
 
   -- the bits handed back are those of the answer
   answer-bits : (b : Buffers) (c : Lent) (a : Answer) (b′ : Buffers) → Good f g b → (p : Post b c a b′) → p .bits ≡ answerBits a
@@ -157,7 +151,7 @@ module _ (f : Network) (g : Module) where
           met .answer
           ∙ ap answerBits (sym (p .taken ∙ own-taken b (good .lengths) (good .range) (good .few) (c .call) (p .numbers) (p .bits) b′ met))
       go (other lent left around e l met here there) =
-          let wrong = ap (λ (x : Lengths). sameLengths x fixed) e ∙ l in
+          let wrong = wrong-lent lent c e l in
           other-bits lent (c .call) wrong (p .bits) left met ∙ ap answerBits (sym (p .taken ∙ other-taken lent (c .call) wrong (p .bits) left met))
 
   -- the calls of a list, one after the other, each by its definition; a call with a wrong length is lent zeros of that length

@@ -4,3 +4,5 @@ pub mod Telling
 pub mod Chained
 pub mod Demand3
 pub mod Exported
+pub mod Cleared
+pub mod Cycles

@@ -9,7 +9,7 @@ use borrow.Author.Tests.{leb-true}
 use Rattle.model.specs.Refusal.{Check, pass, fail, first, unless}
 use Rattle.model.specs.Network.{Network, Signal}
 use Rattle.model.specs.Module.{localEarlier}
-use Rattle.model.specs.Session.{Engine, lockstep, watched, Head, Call, set, watch, read, run, sameLengths, callCheck, running, perform, meet, refused}
+use Rattle.model.specs.Session.{Engine, lockstep, watched, Head, Call, set, watch, read, run, Lengths, Lent, sameLengths, callCheck, running, perform, meet, refused}
 use Rattle.model.proofs.Refusals.{unless-true}
 use Rattle.model.proofs.Chains.{signal-true}
 use Rattle.model.proofs.Runs.{runs-exact}
@@ -135,5 +135,14 @@ module _ (lent : Buffers) (c : Call) (wrong : sameLengths (lengthsOf lent) fixed
   pub other-taken : apart (kindOf c) bits ≡ refused 40 0
   other-taken = ap (apart (kindOf c)) other-bits ∙ apart-bits (kindOf c) (refused 40 0) (refusal (omega arith) (omega arith) (omega arith))
 
-  pub other-stays : left ≡ lent
+  other-stays : left ≡ lent
   other-stays = met .leaves ∙ ap (λ (x : Reply). x .buffers) (reply-40 lent c wrong)
+
+-- so that the session's buffers stay, whatever parts of them were lent
+pub wrong-lent : (lent : Buffers) (c : Lent) → lengthsOf lent ≡ c .lengths → sameLengths (c .lengths) fixed ≡ false → sameLengths (lengthsOf lent) fixed ≡ false
+wrong-lent lent c e l = ap (λ (x : Lengths). sameLengths x fixed) e ∙ l
+
+pub other-same : {b b′ lent left : Buffers} (c : Lent) {bits : ℕ} (around : Buffers → Buffers) → lengthsOf lent ≡ c .lengths
+    → sameLengths (c .lengths) fixed ≡ false → Meets lent (c .call) bits left → b ≡ around lent → b′ ≡ around left → b′ ≡ b
+other-same {lent = lent} {left = left} c {bits = bits} around e l met here there =
+    there ∙ ap around (other-stays lent (c .call) (wrong-lent lent c e l) bits left met) ∙ sym here
