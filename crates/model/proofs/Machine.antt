@@ -130,11 +130,11 @@ module _ {n : Network} {m : Module} (ok : Scheduled n m) where
       fetched (local-present below) a some h = inv .presentLocal _ _ a below some
       fetched {p} (local-not-yet {k} above) a some h =
           rw (← is) (slots-unstored n m row u p k i above .0 ∙ holds .presentLocal p k a (h refl above) some)
-      fetched (switch-earlier {late} sent) a some h = rw (one-add late) (inv .earlierSwitch _ _ late a sent)
+      fetched {p} (switch-earlier {k} {late} sent) a some h = rw (← one-add late) at (inv .earlierSwitch p k late a sent)
       fetched (switch-present below sent) a some h = inv .presentSwitch _ _ _ a below sent
       fetched {p} (switch-not-yet {k} {late} above sent) a some h =
-          let two : 2 + late ≡ suc (suc late) = omega arith in
-          rw (← is, two) (slots-unstored n m row u p k i above .1 ∙ holds .presentSwitch p k late a sent)
+          let two : suc (suc late) ≡ 2 + late = omega arith in
+          rw (← is) (slots-unstored n m row u p k i above .1 ∙ (rw two at (holds .presentSwitch p k late a sent)))
 
       -- in every cycle, what is at most one cycle old: all that a slot may use
       fetched-young : {p x k s age : ℕ} → Carries m p i x k s age → At m p k → 1 ≤ s → age ≤ 1 → fetch w p x k ≡ past age s
