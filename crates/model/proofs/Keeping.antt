@@ -2,6 +2,8 @@
 use Prim.Native.Nat.{ℕ}
 use mathlib.Core.Path.{_≡_, refl, sym, _∙_}
 use mathlib.Core.List.{List, [], _∷_}
+use lib.ListN.{length, drop}
+use lib.Seq.{drop-nil}
 use Rattle.model.specs.Network.{Network, Signal}
 use Rattle.model.specs.Value.{Step, start, VAL, FollowsAlways}
 use Rattle.model.specs.Module.{Module, At}
@@ -19,34 +21,34 @@ step-rows n row other a b same st =
     record { input-rule = λ s g k. st .input-rule s g k ∙ sym (same s g k); unit-rule = st .unit-rule; rank-rule = st .rank-rule }
 
 module _ {n : Network} {m : Module} (formed : Formed n) (acyclic : Acyclic n) (ok : Scheduled n m) (given : ℕ → ℕ) where
-  -- the memory w keeps step with the rows: it holds VAL of them, and of the cycle before some state
+  -- the memory w keeps step with the rows: it holds VAL of them and of the rows before them; before time 0 stands time 0
   pub record Kept (w : Memory) (rows : List (ℕ → ℕ)) : Type 0 where
-    pub old : ℕ → ℕ
-    pub holds : Holds m old (VAL n given rows) w
+    pub holds : Holds m (λ age. VAL n given (drop age rows)) (length rows) w
 
-  VAL-step : (row : ℕ → ℕ) (rows : List (ℕ → ℕ)) → Step n row (VAL n given rows) (VAL n given (row ∷ rows))
+  pub VAL-step : (row : ℕ → ℕ) (rows : List (ℕ → ℕ)) → Step n row (VAL n given rows) (VAL n given (row ∷ rows))
   unfolding VAL
   VAL-step row rows = next-step n formed acyclic row (VAL n given rows)
 
   pub kept-cycle : (row hand : ℕ → ℕ) → SameInputs n row hand → (w : Memory) (rows : List (ℕ → ℕ)) → Kept w rows → Kept (cycle n m row w) (hand ∷ rows)
   kept-cycle row hand same w rows k =
       record {
-        old = VAL n given rows;
-        holds = next-cycle ok formed (step-rows n row hand _ _ same (VAL-step hand rows)) (k .holds);
+        holds =
+            next-cycle ok formed (λ age. VAL n given (drop age (hand ∷ rows))) (step-rows n row hand _ _ same (VAL-step hand rows))
+            (k .holds);
       }
 
   pub kept-places : (w : Memory) (rows : List (ℕ → ℕ)) → Kept w rows → Places n m w (VAL n given rows)
   kept-places w rows k s p i g a is = at-signal (k .holds) a is (g .low)
 
   pub kept-near : (w u : Memory) (rows : List (ℕ → ℕ)) → Near m w u → Kept u rows → Kept w rows
-  kept-near w u rows near k = record { old = k .old; holds = holds-near near (k .holds) }
+  kept-near w u rows near k = record { holds = holds-near near (k .holds) }
 
   -- before cycle 1
   pub kept-opening : Kept (opening m (start n given)) []
   unfolding VAL
-  kept-opening = record { old = start n given; holds = at-start ok (λ s g. refl) }
+  kept-opening = record { holds = at-start ok (λ age s g. rw drop-nil) }
 
-  kept-after : (rows : List (ℕ → ℕ)) → Kept (after n m (opening m (start n given)) rows) rows
+  pub kept-after : (rows : List (ℕ → ℕ)) → Kept (after n m (opening m (start n given)) rows) rows
   unfolding after
   kept-after [] = kept-opening
   kept-after (row ∷ rows) = kept-cycle row row (λ s g k. refl) _ rows (kept-after rows)

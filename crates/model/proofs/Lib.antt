@@ -10,6 +10,7 @@ pub mod Machine
 pub mod Halves
 pub mod Session
 pub mod Keeping
+pub mod Ages
 pub mod Runs
 pub mod Inputs
 pub mod Traces

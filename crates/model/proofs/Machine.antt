@@ -1,10 +1,12 @@
--- The lockstep machine does the rules of one cycle: where the memory holds a state, the memory after a cycle holds a state that follows
--- from it. The invariant inside the cycle: below the slot that is next, the present halves hold the new state. Besides, for memories
--- that buffers hold: the machine keeps every relation between the values of two memories that its gates keep.
-use Prim.Native.Nat.{ℕ, zero, suc, _≤_, _<_}
+-- The lockstep machine does the rules of one cycle: where the memory holds the states of the cycles finished, the memory after a cycle
+-- holds those and a state that follows from them. The invariant inside the cycle: below the slot that is next, the present halves hold
+-- the new state. So each location that carries a signal holds it as old as `Carries` says, at every slot. Besides, for memories that
+-- buffers hold: the machine keeps every relation between the values of two memories that its gates keep.
+use Prim.Native.Nat.{ℕ, zero, suc, _+_, _≤_, _<_}
 use mathlib.Core.Path.{_≡_, refl, sym, _∙_, ap}
 use mathlib.Core.Bool.{Bool, true, false, not}
 use mathlib.Core.Logic.{_⊎_, inl, inr}
+use native.Mathlib.Numerals.{one-add}
 use native.Mathlib.Omega.{arith}
 use lib.Dec.{eqb}
 use borrow.Author.Tests.{eqb-true, eqb-false, ne-eqb}
@@ -17,22 +19,22 @@ use Rattle.model.specs.Session.{ticks}
 use Rattle.model.proofs.Conditions.{Formed, Same, Scheduled}
 use Rattle.model.proofs.Operands.{wanted, IsGate, gate-no-input, Fits, unused, carried, differ, distinct, sent-received, operand-exact, send-full, send-stored, reception-sent}
 
--- the state late cycles back, 0 or 1: now, or old before it
-abbrev pub back : (ℕ → ℕ) → (ℕ → ℕ) → ℕ → ℕ → ℕ
-back now old zero = now
-back now old (suc late) = old
+-- After t cycles, past having the states by their age (0: that of the last cycle): the earlier halves hold what the last cycle stored,
+-- and the present ones what the cycle before it stored. A switch location, where something is sent into it, holds the signal sent, as old
+-- as it was when sent. Before cycle 1 nothing is said of the present local half.
+pub record Holds (m : Module) (past : ℕ → ℕ → ℕ) (t : ℕ) (w : Memory) : Type 0 where
+  pub earlierLocal : (p k : ℕ) → At m p k → 1 ≤ m .signal p k → w .earlierLocal p k ≡ past 0 (m .signal p k)
+  pub earlierSwitch : (p k late : ℕ) → At m p k → Sent m p k late → w .earlierSwitch p k ≡ past late (sentSignal m p k)
+  pub presentLocal : (p k : ℕ) → At m p k → 1 ≤ t → 1 ≤ m .signal p k → w .presentLocal p k ≡ past 1 (m .signal p k)
+  pub presentSwitch : (p k late : ℕ) → At m p k → Sent m p k late → w .presentSwitch p k ≡ past (suc late) (sentSignal m p k)
 
--- At the end of a cycle the earlier local half holds the state now at every place, and the earlier switch half, where something is
--- sent into it, the sent signal of now (sent from the present half) or of the state before, old (sent from the earlier half).
-pub record Holds (m : Module) (old now : ℕ → ℕ) (w : Memory) : Type 0 where
-  pub local : (p k : ℕ) → At m p k → 1 ≤ m .signal p k → w .earlierLocal p k ≡ now (m .signal p k)
-  pub switch : (p k late : ℕ) → At m p k → Sent m p k late → w .earlierSwitch p k ≡ back now old late (sentSignal m p k)
-
--- In the cycle from now to new, when its slots below i are done: the earlier halves are as they were, and the present ones hold new below i.
-record Stored (m : Module) (old now new : ℕ → ℕ) (i : ℕ) (w : Memory) : Type 0 where
-  before : Holds m old now w
-  local : (p k : ℕ) → At m p k → k < i → 1 ≤ m .signal p k → w .presentLocal p k ≡ new (m .signal p k)
-  switch : (p k late : ℕ) → At m p k → k < i → Sent m p k late → w .presentSwitch p k ≡ back new now late (sentSignal m p k)
+-- Inside a cycle, past 0 being its own state, when its slots below i are done: the earlier halves hold what the cycle before stored, and
+-- the present ones below i what this cycle stores.
+record Stored (m : Module) (past : ℕ → ℕ → ℕ) (i : ℕ) (w : Memory) : Type 0 where
+  earlierLocal : (p k : ℕ) → At m p k → 1 ≤ m .signal p k → w .earlierLocal p k ≡ past 1 (m .signal p k)
+  earlierSwitch : (p k late : ℕ) → At m p k → Sent m p k late → w .earlierSwitch p k ≡ past (suc late) (sentSignal m p k)
+  presentLocal : (p k : ℕ) → At m p k → k < i → 1 ≤ m .signal p k → w .presentLocal p k ≡ past 0 (m .signal p k)
+  presentSwitch : (p k late : ℕ) → At m p k → k < i → Sent m p k late → w .presentSwitch p k ≡ past late (sentSignal m p k)
 
 value-some : (v : ℕ → ℕ) (s : ℕ) → 1 ≤ s → valueOf v s ≡ v s
 value-some v zero h = absurd (omega arith)
@@ -48,6 +50,17 @@ stored-cases k i stores x old y here other = go (eqb k i) refl
     go true e = let h = here (eqb-true k i e) in rw (h .0) (h .1)
     go false e = other (eqb-false k i e)
 
+-- the slots below i leave the present halves from i on as they were
+pub slots-unstored : (n : Network) (m : Module) (row : ℕ → ℕ) (w : Memory) (p k i : ℕ) → i ≤ k
+    → (slots n m row i w .presentLocal p k ≡ w .presentLocal p k) × (slots n m row i w .presentSwitch p k ≡ w .presentSwitch p k)
+unfolding slots slot
+slots-unstored n m row w p k zero h = (refl, refl)
+slots-unstored n m row w p k (suc i) h =
+    let left = slots-unstored n m row w p k i (omega arith) in (
+      stored-cases k i _ _ _ _ (λ e. absurd (omega arith)) (λ d. left .0),
+      stored-cases k i _ _ _ _ (λ e. absurd (omega arith)) (λ d. left .1),
+    )
+
 sent-age : {m : Module} {p k late : ℕ} → Sent m p k late → late ≤ 1
 sent-age (present received is) = omega arith
 sent-age (earlier received is) = omega arith
@@ -57,9 +70,14 @@ wanted-age : {kind : ℕ} → IsGate kind → wanted kind ≤ 1
 wanted-age (inl e) = rw e (omega arith)
 wanted-age (inr e) = rw e (omega arith)
 
--- the state that the gate s takes its sources from, in the cycle from now to new
-abbrev taken : Network → (ℕ → ℕ) → (ℕ → ℕ) → ℕ → ℕ → ℕ
-taken n now new s = back new now (wanted (n .kind s))
+-- a present local location that is not yet stored carries nothing so young
+pub young-stored : {m : Module} {p i x k s age : ℕ} → Carries m p i x k s age → age ≤ 1 → x ≡ localPresent → i ≤ k → ⊥
+young-stored local-earlier young e h = omega arith
+young-stored (local-present below) young e h = omega arith
+young-stored (local-not-yet above) young e h = omega arith
+young-stored (switch-earlier sent) young e h = omega arith
+young-stored (switch-present below sent) young e h = omega arith
+young-stored (switch-not-yet above sent) young e h = omega arith
 
 -- the lines of a module name its own locations
 module _ {n : Network} {m : Module} (laid : Laid n m) {p i : ℕ} (a : At m p i) where
@@ -82,9 +100,9 @@ module _ {n : Network} {m : Module} (laid : Laid n m) {p i : ℕ} (a : At m p i)
       record { processor = b .processor; slot = laid .send-locations (m .sender p i) i b }
 
 -- every place of a signal holds its value
-pub at-signal : {m : Module} {old now : ℕ → ℕ} {w : Memory} {p i s : ℕ} → Holds m old now w → At m p i → m .signal p i ≡ s → 1 ≤ s
-    → w .earlierLocal p i ≡ now s
-at-signal {now} {p} {i} holds a is some = holds .local p i a (rw is some) ∙ ap now is
+pub at-signal : {m : Module} {past : ℕ → ℕ → ℕ} {t : ℕ} {w : Memory} {p i s : ℕ} → Holds m past t w → At m p i → m .signal p i ≡ s → 1 ≤ s
+    → w .earlierLocal p i ≡ past 0 s
+at-signal {past} {p} {i} holds a is some = holds .earlierLocal p i a (rw is some) ∙ ap (past 0) is
 
 module _ {n : Network} {m : Module} (ok : Scheduled n m) where
   module _ {p i : ℕ} (a : At m p i) where
@@ -98,41 +116,49 @@ module _ {n : Network} {m : Module} (ok : Scheduled n m) where
     sent-carries (earlier received is) = rw is local-earlier
 
     -- and is a signal
-    sent-some : (m .sender p i ≡ noSender → ⊥) → 1 ≤ sentSignal m p i
+    pub sent-some : (m .sender p i ≡ noSender → ⊥) → 1 ≤ sentSignal m p i
     sent-some received = send-full m (m .sender p i) i (send-right received) (reception-sent m p i (ok .receptions p i a) received)
 
-  module _ (formed : Formed n) {row old now new : ℕ → ℕ} (rules : Step n row now new) where
-    module _ {i : ℕ} {w : Memory} (inv : Stored m old now new i w) where
-      -- a location that carries s holds it, for the four parts
-      fetched : {p x k s age : ℕ} → Carries m p i x k s age → At m p k → 1 ≤ s → age ≤ 1 → fetch w p x k ≡ back new now age s
+  module _ (formed : Formed n) {row : ℕ → ℕ} (past : ℕ → ℕ → ℕ) (rules : Step n row (past 1) (past 0))
+      {t : ℕ} {u : Memory} (holds : Holds m (λ age. past (suc age)) t u) where
+    module _ {i : ℕ} {w : Memory} (is : slots n m row i u ≡ w) (inv : Stored m past i w) where
+      -- a location that carries s holds it, for the four parts and all ages
+      fetched : {p x k s age : ℕ} → Carries m p i x k s age → At m p k → 1 ≤ s → (x ≡ localPresent → i ≤ k → 1 ≤ t)
+          → fetch w p x k ≡ past age s
       unfolding fetch
-      fetched local-earlier a some h = inv .before .local _ _ a some
-      fetched (local-present below) a some h = inv .local _ _ a below some
-      fetched (local-not-yet above) a some h = absurd (omega arith)
-      fetched (switch-earlier (present received is)) a some h = inv .before .switch _ _ _ a (present received is)
-      fetched (switch-earlier (earlier received is)) a some h = absurd (omega arith)
-      fetched (switch-present below sent) a some h = inv .switch _ _ _ a below sent
-      fetched (switch-not-yet above sent) a some h = absurd (omega arith)
+      fetched local-earlier a some h = inv .earlierLocal _ _ a some
+      fetched (local-present below) a some h = inv .presentLocal _ _ a below some
+      fetched {p} (local-not-yet {k} above) a some h =
+          rw (← is) (slots-unstored n m row u p k i above .0 ∙ holds .presentLocal p k a (h refl above) some)
+      fetched {p} (switch-earlier {k} {late} sent) a some h = rw (← one-add late) at (inv .earlierSwitch p k late a sent)
+      fetched (switch-present below sent) a some h = inv .presentSwitch _ _ _ a below sent
+      fetched {p} (switch-not-yet {k} {late} above sent) a some h =
+          let two : suc (suc late) ≡ 2 + late = omega arith in
+          rw (← is) (slots-unstored n m row u p k i above .1 ∙ (rw two at (holds .presentSwitch p k late a sent)))
+
+      -- in every cycle, what is at most one cycle old: all that a slot may use
+      fetched-young : {p x k s age : ℕ} → Carries m p i x k s age → At m p k → 1 ≤ s → age ≤ 1 → fetch w p x k ≡ past age s
+      fetched-young c a some young = fetched c a some (λ e above. absurd (young-stored c young e above))
 
       module _ {p : ℕ} (a : At m p i) where
-        sent-right : {late : ℕ} → Sent m p i late → sent m w (m .sender p i) i ≡ back new now late (sentSignal m p i)
+        sent-right : {late : ℕ} → Sent m p i late → sent m w (m .sender p i) i ≡ past late (sentSignal m p i)
         unfolding sent
         sent-right s =
             let received = sent-received s in
-            fetched (sent-carries a s) (sent-at (ok .laid) a received) (sent-some a received) (sent-age s)
+            fetched-young (sent-carries a s) (sent-at (ok .laid) a received) (sent-some a received) (sent-age s)
 
         module _ (some : 1 ≤ m .signal p i) where
           -- an operand of a gate is its source, of the cycle that the gate takes it from
           operand-right : IsGate (n .kind (m .signal p i)) → (j : ℕ) → j < 4
-              → operand m w p i j ≡ valueOf (taken n now new (m .signal p i)) (n .source (m .signal p i) j)
+              → operand m w p i j ≡ valueOf (past (wanted (n .kind (m .signal p i)))) (n .source (m .signal p i) j)
           unfolding operand fetch
           operand-right gate j l = go (operand-exact n m p i j some gate .0 (ok .operands p i j a l))
             where
-              go : Fits n m p i j → operand m w p i j ≡ valueOf (taken n now new (m .signal p i)) (n .source (m .signal p i) j)
+              go : Fits n m p i j → operand m w p i j ≡ valueOf (past (wanted (n .kind (m .signal p i)))) (n .source (m .signal p i) j)
               go (unused e is) = rw (e, is)
-              go (carried h c) = fetched c (operand-at (ok .laid) a j l) h (wanted-age gate) ∙ sym (value-some _ _ h)
+              go (carried h c) = fetched-young c (operand-at (ok .laid) a j l) h (wanted-age gate) ∙ sym (value-some _ _ h)
 
-          gate-right : IsGate (n .kind (m .signal p i)) → result n m row w p i ≡ evaluate n (taken n now new (m .signal p i)) (m .signal p i)
+          gate-right : IsGate (n .kind (m .signal p i)) → result n m row w p i ≡ evaluate n (past (wanted (n .kind (m .signal p i)))) (m .signal p i)
           unfolding result evaluate
           gate-right gate =
               let right = operand-right gate in
@@ -144,7 +170,7 @@ module _ {n : Network} {m : Module} (ok : Scheduled n m) where
                 right 3 (omega arith),
               )
 
-          result-right : result n m row w p i ≡ new (m .signal p i)
+          result-right : result n m row w p i ≡ past 0 (m .signal p i)
           unfolding result
           result-right = go (formed .kinds (m .signal p i) g)
             where
@@ -152,66 +178,80 @@ module _ {n : Network} {m : Module} (ok : Scheduled n m) where
               g = signal-at (ok .laid) a some
 
               go : (n .kind (m .signal p i) ≡ input) ⊎ (n .kind (m .signal p i) ≡ unitDelay) ⊎ (n .kind (m .signal p i) ≡ rankOrder)
-                  → result n m row w p i ≡ new (m .signal p i)
+                  → result n m row w p i ≡ past 0 (m .signal p i)
               go (inl e) = rw (e, rules .input-rule (m .signal p i) g e)
               go (inr (inl e)) = gate-right (inl e) ∙ rw e (sym (rules .unit-rule (m .signal p i) g e))
               go (inr (inr e)) = gate-right (inr e) ∙ rw e (sym (rules .rank-rule (m .signal p i) g e))
 
-      next-slot : Stored m old now new (suc i) (slot n m row i w)
+      next-slot : Stored m past (suc i) (slot n m row i w)
       unfolding slot
       next-slot =
           record {
-            before = record { local = inv .before .local; switch = inv .before .switch };
-            local = λ p k a h some.
+            earlierLocal = inv .earlierLocal;
+            earlierSwitch = inv .earlierSwitch;
+            presentLocal = λ p k a h some.
                 stored-cases k i _ _ _ _
                 (λ e. let here : 1 ≤ m .signal p i = rw e at some in (distinct _ _ (not-empty here), rw e (result-right (rw e at a) here)))
-                (λ d. inv .local p k a (omega arith) some);
-            switch = λ p k late a h s.
+                (λ d. inv .presentLocal p k a (omega arith) some);
+            presentSwitch = λ p k late a h s.
                 stored-cases k i _ _ _ _
                 (λ e. let here : Sent m p i late = rw e at s in (distinct _ _ (sent-received here), rw e (sent-right (rw e at a) here)))
-                (λ d. inv .switch p k late a (omega arith) s);
+                (λ d. inv .presentSwitch p k late a (omega arith) s);
           }
         where
           not-empty : {s : ℕ} → 1 ≤ s → s ≡ 0 → ⊥
           not-empty h e = omega arith
 
-    module _ {w : Memory} (holds : Holds m old now w) where
-      all-slots : (c : ℕ) → Stored m old now new c (slots n m row c w)
-      unfolding slots
-      all-slots zero =
-          record { before = holds; local = λ p k a l some. absurd (omega arith); switch = λ p k late a l s. absurd (omega arith) }
-      all-slots (suc i) = next-slot (all-slots i)
+    all-slots : (c : ℕ) → Stored m past c (slots n m row c u)
+    unfolding slots
+    all-slots zero =
+        record {
+          earlierLocal = holds .earlierLocal;
+          earlierSwitch = holds .earlierSwitch;
+          presentLocal = λ p k a l some. absurd (omega arith);
+          presentSwitch = λ p k late a l s. absurd (omega arith);
+        }
+    all-slots (suc i) = next-slot refl (all-slots i)
 
-      -- one cycle
-      pub next-cycle : Holds m now new (cycle n m row w)
-      unfolding cycle alternate
-      next-cycle =
-          let r = all-slots (m .slots) in
-          record {
-            local = λ p k a some. r .local p k a (a .slot) some;
-            switch = λ p k late a s. r .switch p k late a (a .slot) s;
-          }
+    -- at every slot of the cycle a location that carries s holds it
+    pub carries-past : {p i x k s age : ℕ} → Carries m p i x k s age → At m p k → 1 ≤ s → (x ≡ localPresent → i ≤ k → 1 ≤ t)
+        → fetch (slots n m row i u) p x k ≡ past age s
+    carries-past {i} = fetched refl (all-slots i)
 
-  -- before cycle 1 the memory holds time 0, which stands for the state before it too
-  pub at-start : {init now : ℕ → ℕ} → Same n init now → Holds m now now (opening m init)
+    -- one cycle
+    pub next-cycle : Holds m past (suc t) (cycle n m row u)
+    unfolding cycle alternate
+    next-cycle =
+        let r = all-slots (m .slots) in
+        record {
+          earlierLocal = λ p k a some. r .presentLocal p k a (a .slot) some;
+          earlierSwitch = λ p k late a s. r .presentSwitch p k late a (a .slot) s;
+          presentLocal = λ p k a h some. r .earlierLocal p k a some;
+          presentSwitch = r .earlierSwitch;
+        }
+
+  -- before cycle 1 the memory holds time 0, which stands for the states before it too
+  pub at-start : {init : ℕ → ℕ} {past : ℕ → ℕ → ℕ} → ((age : ℕ) → Same n init (past age)) → Holds m past 0 (opening m init)
   unfolding opening
-  at-start {init} {now} same =
+  at-start {init} {past} same =
       record {
-        local = λ p k a some. value-some init (m .signal p k) some ∙ same (m .signal p k) (signal-at (ok .laid) a some);
-        switch = λ p k late a s.
-            let received = sent-received s in
-            let some = sent-some a received in
-            rw (ne-eqb (m .sender p k) noSender received)
-            (value-some init _ some ∙ same _ (signal-at (ok .laid) (sent-at (ok .laid) a received) some) ∙ always late (sentSignal m p k));
+        earlierLocal = λ p k a some. value-some init (m .signal p k) some ∙ same 0 (m .signal p k) (signal-at (ok .laid) a some);
+        earlierSwitch = λ p k late. switched p k late;
+        presentLocal = λ p k a h some. absurd (omega arith);
+        presentSwitch = λ p k late. switched p k (suc late);
       }
     where
-      always : (late s : ℕ) → now s ≡ back now now late s
-      always zero s = refl
-      always (suc late) s = refl
+      switched : (p k age : ℕ) {late : ℕ} → At m p k → Sent m p k late
+          → (if received m p k then valueOf init (sentSignal m p k) else 0) ≡ past age (sentSignal m p k)
+      switched p k age a s =
+          let received = sent-received s in
+          let some = sent-some a received in
+          rw (ne-eqb (m .sender p k) noSender received)
+          (value-some init _ some ∙ same age _ (signal-at (ok .laid) (sent-at (ok .laid) a received) some))
 
   -- the signal's place
-  pub at-place : {old now : ℕ → ℕ} {w : Memory} → Holds m old now w → (s : ℕ) (g : Signal n s)
-      → w .earlierLocal (ok .places s g .processor) (ok .places s g .slot) ≡ now s
+  pub at-place : {past : ℕ → ℕ → ℕ} {t : ℕ} {w : Memory} → Holds m past t w → (s : ℕ) (g : Signal n s)
+      → w .earlierLocal (ok .places s g .processor) (ok .places s g .slot) ≡ past 0 s
   at-place holds s g = at-signal holds (ok .places s g .at) (ok .places s g .is) (g .low)
 
 -- what two memories hold at each location of the module is related
@@ -325,11 +365,13 @@ near-refl =
       presentSwitch = λ p k a. refl;
     }
 
-pub holds-near : {m : Module} {old now : ℕ → ℕ} {w u : Memory} → Near m w u → Holds m old now u → Holds m old now w
+pub holds-near : {m : Module} {past : ℕ → ℕ → ℕ} {t : ℕ} {w u : Memory} → Near m w u → Holds m past t u → Holds m past t w
 holds-near near holds =
     record {
-      local = λ p k a some. near .earlierLocal p k a ∙ holds .local p k a some;
-      switch = λ p k late a s. near .earlierSwitch p k a ∙ holds .switch p k late a s;
+      earlierLocal = λ p k a some. near .earlierLocal p k a ∙ holds .earlierLocal p k a some;
+      earlierSwitch = λ p k late a s. near .earlierSwitch p k a ∙ holds .earlierSwitch p k late a s;
+      presentLocal = λ p k a h some. near .presentLocal p k a ∙ holds .presentLocal p k a h some;
+      presentSwitch = λ p k late a s. near .presentSwitch p k a ∙ holds .presentSwitch p k late a s;
     }
 
 pub near-alternated : {m : Module} {w u : Memory} → Near m w u → Near m (alternate w) (alternate u)

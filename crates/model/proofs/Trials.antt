@@ -111,12 +111,12 @@ flip-flop-refused = refl
 
 -- The starred trials of 01
 pub record Trials : Type 0 where
-  pub and-1111 : conjunction 1 1 1 1 ≡ 1
-  pub and-1Z11 : conjunction 1 Z 1 1 ≡ U
-  pub and-U011 : conjunction U 0 1 1 ≡ 0
+  pub and-1111 : function 0 1 1 1 1 ≡ 1
+  pub and-1Z11 : function 0 1 Z 1 1 ≡ U
+  pub and-U011 : function 0 U 0 1 1 ≡ 0
   pub invert-Z : translation 5 Z ≡ U
-  pub xor-1110 : parity 1 1 1 0 ≡ 1
-  pub xor-1Z00 : parity 1 Z 0 0 ≡ U
+  pub xor-1110 : function 1 1 1 1 0 ≡ 1
+  pub xor-1Z00 : function 1 1 Z 0 0 ≡ U
   pub select-U110 : function 3 U 1 1 0 ≡ 1
   pub select-UZZ0 : function 3 U Z Z 0 ≡ U
   pub majority-1U10 : function 4 1 U 1 0 ≡ 1
