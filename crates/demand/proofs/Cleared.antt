@@ -2,7 +2,7 @@
 -- right, gives 44", and changes nothing. A call with a wrong length gives 40, here as everywhere.
 use Prim.Native.Nat.{ℕ}
 use mathlib.Core.Path.{_≡_, refl, sym, subst, _∙_, ap}
-use mathlib.Core.Bool.{true, false}
+use mathlib.Core.Bool.{true}
 use mathlib.Core.List.{List}
 use native.Mathlib.Omega.{arith}
 use lib.ListN.{length}

@@ -1,19 +1,18 @@
 -- What a run leaves in the local and switch locations (01, Session: "The run's contract equates the local and switch locations as it leaves
 -- them with those after all the cycles it did"), on every buffer that 44 lets pass, whether files were accepted or not.
 use Prim.Native.Nat.{ℕ}
-use mathlib.Core.Path.{_≡_, refl, sym, subst, _∙_, ap}
+use mathlib.Core.Path.{_≡_, sym, subst, ap}
 use mathlib.Core.Bool.{true}
 use mathlib.Core.List.{List}
-use lib.ListN.{length}
 use native.Mathlib.Omega.{arith}
 use Rattle.model.specs.Refusal.{Check, pass, fail}
 use Rattle.model.specs.Network.{Network}
 use Rattle.model.specs.Module.{Module}
 use Rattle.model.specs.Machine.{Memory, cycle}
-use Rattle.model.specs.Session.{watched, Call, run, sameLengths, ticks, running, perform, cyclesDone}
+use Rattle.model.specs.Session.{watched, run, sameLengths, ticks, running, perform, cyclesDone}
 use Rattle.model.proofs.Machine.{Near}
 use Rattle.model.proofs.Runs.{runs-exact}
-use Rattle.memory.specs.Memory.{memoryOf, memoryLength, within, held}
+use Rattle.memory.specs.Memory.{memoryOf, within, held}
 use Rattle.memory.proofs.Near.{held-near}
 use Rattle.memory.proofs.Written.{written-self}
 use Rattle.tables.specs.Panel.{processorsIn, slotsIn, handIn, watchedIn, maskIn, processorIn, slotIn}

@@ -8,7 +8,6 @@ use contract.Lifetimes.{Lfts}
 use denote.Ref.{now}
 use denote.Triple.Clauses.{AtExit}
 use borrow.Fn.Kinds.{Dens, endedOf}
-use Rattle.model.specs.Files.{Files}
 use Rattle.model.specs.Session.{Call, Lent, sameLengths, set, watch, read, run}
 use Rattle.answers.specs.Answers.{answerBits}
 use Rattle.answers.specs.Apart.{apart}
@@ -24,7 +23,7 @@ use Rattle.session.proofs.cavundir_run.Kinds.{ps as run-ps, r as run-r}
 use Rattle.session.proofs.cavundir_run.Reads.{Asked as RunAsks, Learnt as RunTells}
 use Rattle.opening.proofs.cavundir_open.Kinds.{ps as open-ps, r as open-r}
 use Rattle.opening.proofs.cavundir_open.Reads.{Asked as OpenAsks, Learnt as OpenTells}
-use Rattle.demand.specs.Lending.{Opens, Meets, Answered, own, other, kindOf, Has32, Post}
+use Rattle.demand.specs.Lending.{Opens, Meets, own, other, kindOf, Has32, Post}
 
 -- A call that met its contract stands in a list: lent the session's buffers, or others of which a length is wrong.
 module _ {lent left : Buffers} {c : Call} {bits : ℕ} (numbers : Has32 c) (met : Meets lent c bits left) where

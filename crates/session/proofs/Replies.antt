@@ -1,9 +1,8 @@
 -- What a call that is ready answers and leaves is its reply: the command's outcome, with the head written into the panel.
 use Prim.Native.Nat.{ℕ}
 use mathlib.Core.Path.{_≡_, refl, sym, _∙_, ap}
-use mathlib.Core.Bool.{Bool, true, false}
+use mathlib.Core.Bool.{true, false}
 use mathlib.Core.List.{List}
-use Rattle.logic.specs.Choice.{if_then_else_}
 use Rattle.model.specs.Refusal.{Check, pass, fail, first, unless}
 use Rattle.model.specs.Machine.{Memory}
 use Rattle.model.specs.Session.{lockstep, Head, Call, set, watch, read, sameLengths, refused, Outcome, callCheck, perform, meet}
