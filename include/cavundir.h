@@ -56,12 +56,14 @@ enum cavundir_number {
     CAVUNDIR_SIGNAL = 41,           /* the signal given: 0 or above N, or set on a gate */
     CAVUNDIR_VALUE = 42,            /* the value given: above 3, or a mask above 15 */
     CAVUNDIR_CYCLES = 43,           /* the cycles finished: these and the cycles given exceed 65535 */
-    CAVUNDIR_DAMAGED = 44           /* 0: no session is in the buffers, or a number in them is out of range */
+    CAVUNDIR_DAMAGED = 44           /* 0: no session is in the buffers, a number in them is out of its range, or a byte
+                                       that holds no number is not 0; whether the tables belong together is not judged */
 };
 
 /* Opens a session on the bytes of the three files: 0 cycles finished, every signal at its value of time 0, the watch on
  * signal 1 with mask 0. All bytes of the working buffers are written, whatever was in them. Where it is refused, every
- * working buffer is left all zero, a buffer of a wrong length too. */
+ * working buffer is left all zero, a buffer of a wrong length too. If it was lent all three in their right lengths, every
+ * call below then gives CAVUNDIR_DAMAGED; refused by CAVUNDIR_LENGTH, it cleared only what it was lent. */
 uint64_t cavundir_open(const uint8_t *net, size_t net_bytes,
                        const uint8_t *mod, size_t mod_bytes,
                        const uint8_t *stim, size_t stim_bytes,
