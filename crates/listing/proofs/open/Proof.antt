@@ -44,7 +44,7 @@ returns : tie.Need-returns
 returns c =
     let s = c .before .before .before .before .before .before .before .before .before .before .before .before .before .before .before .before .before .before .before .before .before .before .before .before .before in
     let load = c .before .before .before .before .before .before .before .before .before .before .before .before .before .before .load .ensures in
-    opened _ (s .pre .0) _ _ _ _ _ (load .0) (load .1 .0) (load .1 .1) (c .before .before .decode .ensures .0) (c .before .before .decode .ensures .1) (c .before .first-later .ensures) (c .end-time .ensures) refl (c .before .before .before .before .before .before .fill .ensures ∙ ap (λ (n : ℕ). listed n (λ a. notShown)) (s .pre .1 .1 .3))
+    opened _ (s .pre .0) _ _ _ _ _ (load .0) (load .1 .0) (load .1 .1) (c .before .before .decode .ensures .0) (c .before .first-later .ensures) (c .end-time .ensures) refl (c .before .before .before .before .before .before .fill .ensures ∙ ap (λ (n : ℕ). listed n (λ a. notShown)) (s .pre .1 .1 .3))
 
 pub open-spec : {M : Type 1} → statement M
 open-spec =

@@ -26,7 +26,7 @@ same-length : tie.Need-same-length
 same-length c = search needs
 
 returns : tie.Need-returns
-returns c = λ files k s. gives-last s (c .before .before .before .before .before .if1 .taken) _ _ _ _ _ _ (c .before .before .write-line .ensures .0 ∙ sym (length-line _)) (c .before .before .write-line .ensures .1) refl
+returns c = λ files k s. gives-last s (c .before .before .before .before .before .if1 .taken) _ _ _ (c .before .before .write-line .ensures .0 ∙ sym (length-line _)) (c .before .before .write-line .ensures .1) refl
 
 cast-time : tie.Need-cast-time
 cast-time c = search needs
