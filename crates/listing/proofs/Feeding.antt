@@ -139,8 +139,8 @@ skipped-more {stim} {line} {next = next} so-far g zeroth =
     at k l (yes q) = rw q (omega (arith, g .time-is, zeroth))
     at k l (no d) = so-far .earlier k (omega (arith, g .follows))
 
--- the line after those of times up to t is one, and `linesTo` counts to it
-pub passed-one : {stim : List ℕ} {t a b : ℕ} → Passed stim t a → Passed stim t b → a ≡ b
+-- there is one line after those of times up to t, and `linesTo` counts to it
+passed-one : {stim : List ℕ} {t a b : ℕ} → Passed stim t a → Passed stim t b → a ≡ b
 passed-one {stim} {t} {a} {b} p q = go (decLt a b) (decLt b a)
   where
     go : Dec (a < b) → Dec (b < a) → a ≡ b

@@ -329,7 +329,7 @@ module _ {files : Files} {t : ℕ} {l : Lister} {stim panel program memory shown
   fresh = withHead h panel
 
   -- so the panel is that of one cycle more
-  pub fresh-is : fresh ≡ panelAt files (suc t)
+  fresh-is : fresh ≡ panelAt files (suc t)
   fresh-is =
       ap (withHead h) panel-here
       ∙ panel-next files t h (fed .finished ∙ ap (λ (q : Head). q .finished) session-here) (fed .watch ∙ ap (λ (q : Head). q .watch) session-here)

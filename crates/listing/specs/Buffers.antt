@@ -26,11 +26,12 @@ unfoldable pub cyclesAfter : Files → ℕ → ℕ
 cyclesAfter files zero = zero
 cyclesAfter files (suc t) = if ltb t (endTime (files .STIM)) then t else endTime (files .STIM)
 
--- the line of STIM that is read next: those of times up to t are passed, as many of the first lines as there are
+-- how many of the first k lines of STIM have a time up to t
 unfoldable pub linesTo : List ℕ → ℕ → ℕ → ℕ
 linesTo stim t zero = zero
 linesTo stim t (suc k) = if leb (stimTime stim k) t then suc (linesTo stim t k) else linesTo stim t k
 
+-- times rise, so that after those lines comes the one that is read next
 abbrev pub lineAt : Files → ℕ → ℕ
 lineAt files t = linesTo (files .STIM) t (stimCount (files .STIM))
 
