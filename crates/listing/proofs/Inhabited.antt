@@ -221,6 +221,6 @@ prints-printed files =
 pub prints-exact : (files : Files) (text : List ℕ) → Prints (firstBytes files) text ↔ (text ≡ printed panelLimit files)
 prints-exact files text = (program-prints files text, λ e. subst (Prints (firstBytes files)) (sym e) (prints-printed files))
 
--- Demand 2 of the text that there is: for each files the one that `prints-some` gives
+-- Demand 2 of the text that there is: for all files the one that `prints-some` gives
 pub some-demand-2 : Demand2 panelLimit (λ files. prints-some (firstBytes files) .0)
 some-demand-2 = program-demand-2 (λ files. prints-some (firstBytes files) .0) (λ files. prints-some (firstBytes files) .1)
