@@ -5,17 +5,20 @@ use mathlib.Core.Bool.{Bool, true, false}
 use mathlib.Core.List.{List, [], _∷_, flatMap}
 use native.Mathlib.Omega.{arith}
 use native.Mathlib.Numerals.{add-one}
-use native.Mathlib.Decide.{ℕ-discrete}
-use lib.Dec.{eqb}
+use native.Mathlib.Decide.{ℕ-discrete, decLt}
+use lib.Dec.{eqb, leb}
 use lib.ListN.{length, getD, set, length-set, length-append}
 use lib.Seq.{sets, length-sets, getD-set-same, getD-set-other}
-use borrow.Author.Tests.{eq-eqb, ne-eqb}
+use borrow.Author.Tests.{eq-eqb, ne-eqb, le-leb, lt-leb}
+use Rattle.logic.specs.Test.{_and_}
+use Rattle.logic.specs.Choice.{if_then_else_}
+use Rattle.logic.proofs.Listed.{is-listed}
 use Rattle.writing.specs.Text.{fieldText, lineText}
 use Rattle.writing.proofs.Writing.{sets-append, length-fields}
 use Rattle.model.specs.Refusal.{Check, pass, fail}
 use Rattle.model.specs.Listing.{joined, refusalLine}
 use Rattle.listing.specs.Refused.{refusedText}
-use Rattle.listing.specs.Changes.{shownLength, changeLine, changeLines, Shows}
+use Rattle.listing.specs.Changes.{shownLength, changeLine, changeLines, shownWith}
 
 pub length-line : (numbers : List ℕ) → length (lineText numbers) ≡ 6 * length numbers + 1
 unfolding lineText
@@ -47,7 +50,7 @@ pub record Written (n time : ℕ) (values : ℕ → ℕ) (old : ℕ → ℕ) (le
   pub most : at ≤ 19 * s
   pub size : length shown ≡ shownLength
   pub passed : (k : ℕ) → 1 ≤ k → k ≤ s → getD shown k 0 ≡ values k
-  pub ahead : (k : ℕ) → s < k → getD shown k 0 ≡ old k
+  pub others : (k : ℕ) → (1 ≤ k → k ≤ s → ⊥) → getD shown k 0 ≡ old k
 
 pub written-starts : (n time : ℕ) (values : ℕ → ℕ) (shown lent : List ℕ) → length shown ≡ shownLength
     → Written n time values (λ s. getD shown s 0) lent 0 0 shown lent
@@ -60,7 +63,7 @@ written-starts n time values shown lent e =
       most = omega arith;
       size = e;
       passed = λ k l h. absurd (omega arith);
-      ahead = λ k l. refl;
+      others = λ k d. refl;
     }
 
 module _ {n time : ℕ} {values old : ℕ → ℕ} {lent : List ℕ} {s at : ℕ} {shown out : List ℕ} (w : Written n time values old lent s at shown out) where
@@ -70,7 +73,7 @@ module _ {n time : ℕ} {values old : ℕ → ℕ} {lent : List ℕ} {s at : ℕ
       → Written n time values old lent (s + 1) next shown′ out′
   unfolding changeLines joined
   written-more value next shown′ out′ l few e place bytes stored =
-      let last = w .ahead (suc s) (omega arith) in
+      let last = w .others (suc s) (λ l h. omega arith) in
       record {
         low = omega arith;
         place = rw add-one (place ∙ rw (e, add-one, last, w .place) (sym (length-append (changeLines s time values old) (changeLine time (suc s) (values (suc s)) (old (suc s))))));
@@ -78,7 +81,7 @@ module _ {n time : ℕ} {values old : ℕ → ℕ} {lent : List ℕ} {s at : ℕ
         most = omega (arith, w .most, line-short time (s + 1) value (getD shown (s + 1) 0));
         size = rw stored (length-set shown (s + 1) value ∙ w .size);
         passed = λ k lo hi. rw stored (now k lo hi (ℕ-discrete k (s + 1)));
-        ahead = λ k lo. rw stored (getD-set-other shown (s + 1) k value 0 (λ q. omega arith) ∙ w .ahead k (omega arith));
+        others = λ k d. rw stored (getD-set-other shown (s + 1) k value 0 (λ q. d (omega arith) (omega arith)) ∙ w .others k (λ lo hi. d lo (omega arith)));
       }
     where
       now : (k : ℕ) → 1 ≤ k → k ≤ s + 1 → Dec (k ≡ s + 1) → getD (set shown (s + 1) value) k 0 ≡ values k
@@ -88,13 +91,22 @@ module _ {n time : ℕ} {values old : ℕ → ℕ} {lent : List ℕ} {s at : ℕ
   pub written-size : length out ≡ length lent
   written-size = rw (w .bytes) (length-sets lent 0 (changeLines s time values old))
 
+  written-shown : shown ≡ shownWith s values old
+  unfolding shownWith _and_
+  written-shown = is-listed shown shownLength _ (w .size) (λ k l. byte k (decLt 0 k) (decLt s k))
+    where
+      byte : (k : ℕ) → Dec (0 < k) → Dec (s < k) → getD shown k 0 ≡ (if leb 1 k and leb k s then values k else old k)
+      byte k (yes lo) (no hi) = rw (le-leb 1 k lo, le-leb k s (omega arith)) (w .passed k lo (omega arith))
+      byte k (yes lo) (yes hi) = rw (le-leb 1 k lo, lt-leb k s hi) (w .others k (λ l h. omega arith))
+      byte k (no lo) d = rw (lt-leb 1 k (omega arith)) (w .others k (λ l h. omega arith))
+
   pub written-ends : (m : ℕ) → n ≡ m → n ≤ s
-      → (at ≡ length (changeLines m time values old)) × (out ≡ sets lent 0 (changeLines m time values old)) × Shows m values shown
+      → (at ≡ length (changeLines m time values old)) × (out ≡ sets lent 0 (changeLines m time values old)) × (shown ≡ shownWith m values old)
   written-ends m e h =
       let q : s ≡ m = omega (arith, w .low) in (
         w .place ∙ ap (λ (k : ℕ). length (changeLines k time values old)) q,
         w .bytes ∙ ap (λ (k : ℕ). sets lent 0 (changeLines k time values old)) q,
-        record { size = w .size; values-shown = λ k lo hi. w .passed k lo (omega arith) },
+        written-shown ∙ ap (λ (k : ℕ). shownWith k values old) q,
       )
 
 -- a refusal has at most one line

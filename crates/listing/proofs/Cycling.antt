@@ -21,9 +21,9 @@ use Rattle.header.specs.Header.{headIn, headOf, withHead}
 use Rattle.header.specs.Commands.{commanded, Tells}
 use Rattle.header.proofs.Running.{run-done}
 use Rattle.session.proofs.Watched.{ranged-watching}
-use Rattle.kept.proofs.Heads.{with-head-length, with-head-processors, with-head-slots, with-head-mask, with-head-signals}
+use Rattle.kept.proofs.Heads.{with-head-length, with-head-processors, with-head-slots, with-head-mask}
 use Rattle.kept.proofs.Memories.{small-in, ticks-small, held-values}
-use Rattle.kept.proofs.Sound.{Sound, head-again, with-head-ranged}
+use Rattle.kept.proofs.Sound.{head-again, with-head-ranged}
 use Rattle.listing.specs.Cycling.{Right, Ready, cycled}
 
 -- mask 0 has no bit
@@ -103,20 +103,3 @@ module _ (h : Head) (panel program memory : List ℕ) (ready : Ready h panel pro
           ap (λ (p : ℕ). held p (slotsIn fresh) (cycleIn fresh program (memoryOf memory)) memory) (with-head-processors h panel)
           ∙ ap (λ (k : ℕ). held (processorsIn panel) k (cycleIn fresh program (memoryOf memory)) memory) (with-head-slots h panel))))
           (held-values fresh program memory (cycleIn fresh program (memoryOf memory)) small (memory-in-range fresh program memory in-range))
-
-  pub cycle-sound : Sound fresh (cycled h)
-  cycle-sound =
-      let e = with-head-signals h panel in
-      let r = ready .sound .range in
-      record {
-        range =
-            record {
-              watched-low = r .watched-low;
-              watched-high = rw e (r .watched-high);
-              mask-high = r .mask-high;
-              hands = λ s low high. r .hands s low (rw e at high);
-              rest = λ s low high. r .rest s (rw e at low) high;
-            };
-        zeroth = ready .sound .zeroth;
-        beyond = ready .sound .beyond;
-      }

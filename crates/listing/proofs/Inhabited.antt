@@ -2,6 +2,7 @@
 -- contracts, one after the other, are met by the session's definitions.
 use Prim.Native.Nat.{ℕ, zero, suc, _+_, _<_, _≤_}
 use mathlib.Core.Path.{_≡_, refl, sym, subst, _∙_, ap}
+use mathlib.Core.Logic.{_↔_}
 use mathlib.Core.List.{List, [], _∷_}
 use native.Mathlib.Omega.{arith}
 use native.Mathlib.Decide.{ℕ-discrete, decLt}
@@ -20,28 +21,29 @@ use Rattle.model.specs.Session.{Head}
 use Rattle.model.specs.Listing.{printed}
 use Rattle.model.specs.Demands.{Demand2}
 use Rattle.model.proofs.Refusals.{pass-not-fail, first-both}
-use Rattle.model.proofs.Accepted.{net-accepted, mod-accepted}
+use Rattle.model.proofs.Accepted.{net-accepted, mod-accepted, stim-accepted}
 use Rattle.memory.specs.Memory.{memoryOf}
 use Rattle.memory.specs.Memory.{held as heldIn}
 use Rattle.tables.specs.Panel.{signalsIn, processorsIn, slotsIn, handIn}
 use Rattle.machine.specs.Running.{cycleIn}
 use Rattle.loading.specs.Loaded.{panelOf, programOf, openingBytes}
-use Rattle.loading.proofs.Loaded.{loaded-head, loaded-tables}
+use Rattle.loading.proofs.Loaded.{loaded-tables}
 use Rattle.checks.specs.declared.FileAnswer.the-variants.{Refused}
 use Rattle.header.specs.declared.Session.{Session}
 use Rattle.header.specs.Header.{headIn, headOf, withHead}
-use Rattle.header.proofs.Heads.{same-head, past-end, decoded, own-head}
+use Rattle.header.proofs.Heads.{same-head, past-end, decoded}
 use Rattle.stimulus.proofs.Steps.{GivenAt}
 use Rattle.listing.specs.declared.Lister.{Lister}
 use Rattle.listing.specs.declared.Piece.{Piece}
-use Rattle.listing.specs.Changes.{pieceLength, shownLength, notShown, valueHeld, changeLines, Shows}
-use Rattle.listing.specs.Feeding.{Passed, Fed}
-use Rattle.listing.specs.Cycling.{Right, cycled}
+use Rattle.listing.specs.Changes.{pieceLength, shownLength, notShown, valueHeld, changeLines, shownWith}
+use Rattle.listing.specs.Feeding.{Fed}
+use Rattle.listing.specs.Cycling.{cycled}
 use Rattle.listing.specs.Pieces.{pieceCount}
+use Rattle.listing.specs.Buffers.{lineAt}
 use Rattle.listing.specs.Standing.{Stands, Gives}
 use Rattle.listing.specs.Printing.{firstBytes, inOrder, Steps, over, more, Prints, net-refused, mod-refused, stim-refused, listed as all-listed}
-use Rattle.listing.proofs.Feeding.{fed-starts, fed-more, Skipped, skipped-more}
-use Rattle.listing.proofs.Standing.{right-signals, stands-few, at-count, by-count, gives-last, gives-zeroth, gives-later, later-right}
+use Rattle.listing.proofs.Feeding.{fed-starts, fed-more, lines-passed}
+use Rattle.listing.proofs.Standing.{right-signals, stands-few, stands-sound, at-count, by-count, gives-last, gives-zeroth, gives-later}
 use Rattle.listing.proofs.Opening.{opened}
 use Rattle.listing.proofs.Printed.{program-prints, program-demand-2}
 
@@ -69,17 +71,6 @@ line-given : (stim : List ℕ) (line : ℕ) → line < stimCount stim
     → GivenAt stim line (stimTime stim line) (stimSignal stim line) (stimValue stim line) (record { line = line + 1 })
 line-given stim line l = record { before-end = l; time-is = refl; signal-is = refl; value-is = refl; follows = refl }
 
--- the first line after those of time 0
-skips : {stim : List ℕ} {line : ℕ} (n : ℕ) → stimCount stim ≤ line + n → Skipped stim line → (later : ℕ) × Passed stim 0 later
-skips {stim} {line} zero b s = (line, record { few = s .few; earlier = s .earlier; later = λ l. absurd (omega arith) })
-skips {stim} {line} (suc n) b s = go (λ next. skips n (omega arith) next) (decLt line (stimCount stim)) (ℕ-discrete (stimTime stim line) 0)
-  where
-    go : (Skipped stim (line + 1) → (later : ℕ) × Passed stim 0 later) → Dec (line < stimCount stim) → Dec (stimTime stim line ≡ 0)
-        → (later : ℕ) × Passed stim 0 later
-    go rest (yes l) (yes q) = rest (skipped-more s (line-given stim line l) q)
-    go rest (yes l) (no d) = (line, record { few = s .few; earlier = s .earlier; later = λ l. omega arith })
-    go rest (no d) q = (line, record { few = s .few; earlier = s .earlier; later = λ l. absurd (d l) })
-
 -- the settings of a time
 record Settled (stim panel : List ℕ) (t line : ℕ) (before : Head) : Type 0 where
   head : Head
@@ -98,14 +89,6 @@ settles {stim} {panel} {t} {line} {before} {h} {at} (suc n) b fed =
     go rest (yes l) (yes q) = rest _ (fed-more fed (line-given stim at l) q _ refl)
     go rest (yes l) (no d) = record { head = h; next = at; fed = fed; stops = λ b q. d q }
     go rest (no d) q = record { head = h; next = at; fed = fed; stops = λ b q. absurd (d b) }
-
--- the values of the signals, shown
-shows : {panel program memory : List ℕ} → Right panel program memory → Shows (signalsIn panel) (valueHeld panel memory) (listed shownLength (valueHeld panel memory))
-shows {panel} {program} {memory} right =
-    record {
-      size = listed-length shownLength (valueHeld panel memory);
-      values-shown = λ s low high. listed-at shownLength (valueHeld panel memory) s (omega (arith, right-signals right));
-    }
 
 -- a step that meets the contract of `Lister::step`
 record Stepped (lent stim program : List ℕ) (l : Lister) (panel memory shown : List ℕ) : Type 0 where
@@ -126,7 +109,7 @@ module _ {files : Files} {k : ℕ} {l : Lister} {stim panel program memory shown
         panel′ = panel;
         memory′ = memory;
         shown′ = shown;
-        gives = λ files k s. gives-last s h lent _ panel memory shown _ refl refl refl;
+        gives = λ files k s. gives-last s h lent _ _ refl refl refl;
       }
 
   steps-first : l .pieces ≡ 0 → Stepped lent stim program l panel memory shown
@@ -137,8 +120,8 @@ module _ {files : Files} {k : ℕ} {l : Lister} {stim panel program memory shown
         out = sets lent 0 text;
         panel′ = panel;
         memory′ = memory;
-        shown′ = listed shownLength (valueHeld panel memory);
-        gives = λ files k z. by-count z (gives-zeroth (l .pieces) e (at-count z) lent _ _ _ refl refl (shows (z .right)) refl);
+        shown′ = shownWith (signalsIn panel) (valueHeld panel memory) (λ x. getD shown x 0);
+        gives = λ files k z. by-count z (gives-zeroth (l .pieces) e (at-count z) lent _ _ _ refl refl refl refl);
       }
 
   steps-later : (l .pieces ≡ 0 → ⊥) → l .pieces ≤ l .end .0 → Stepped lent stim program l panel memory shown
@@ -148,7 +131,7 @@ module _ {files : Files} {k : ℕ} {l : Lister} {stim panel program memory shown
       let fresh = withHead (settled .head) panel in
       let after = heldIn (processorsIn panel) (slotsIn panel) (cycleIn fresh program (memoryOf memory)) memory in
       let text = changeLines (signalsIn fresh) (l .pieces) (valueHeld fresh after) (λ x. getD shown x 0) in
-      let sound = settled .fed .sound (right-signals (s .right)) (s .sound) in
+      let sound = settled .fed .sound (right-signals (s .right)) (stands-sound s) in
       record {
         piece = record {
           lister = record { session = sessionOf (cycled (settled .head)); cursor = record { line = settled .next }; end = l .end; pieces = l .pieces + 1 };
@@ -157,11 +140,10 @@ module _ {files : Files} {k : ℕ} {l : Lister} {stim panel program memory shown
         out = sets lent 0 text;
         panel′ = fresh;
         memory′ = after;
-        shown′ = listed shownLength (valueHeld fresh after);
+        shown′ = shownWith (signalsIn fresh) (valueHeld fresh after) (λ x. getD shown x 0);
         gives = λ files k z.
             by-count z
-            (gives-later (l .pieces) (at-count z) d h (settled .fed) (settled .stops) fresh refl after refl lent _ _ _ refl refl
-            (shows (later-right (l .pieces) (at-count z) d h (settled .fed) (settled .stops) after refl))
+            (gives-later (l .pieces) (at-count z) d h (settled .fed) (settled .stops) fresh refl after refl lent _ _ _ refl refl refl
             (session-head (cycled (settled .head)) (sound .beyond)) refl refl refl);
       }
 
@@ -199,23 +181,18 @@ module _ (files : Files) (accepted : Accepted panelLimit files) where
   abbrev panel : List ℕ
   panel = panelOf (files .NET) (files .MOD) (files .STIM)
 
-  first-later : (later : ℕ) × Passed (files .STIM) 0 later
-  first-later = skips {line = 0} (stimCount (files .STIM)) (omega arith) (record { few = omega arith; earlier = λ k l. absurd (omega arith) })
-
   abbrev lister : Lister
-  lister = record { session = sessionOf (headIn panel); cursor = record { line = first-later .0 }; end = record { 0 = endTime (files .STIM) }; pieces = 0 }
+  lister = record { session = sessionOf (headIn panel); cursor = record { line = lineAt files 0 }; end = record { 0 = endTime (files .STIM) }; pieces = 0 }
 
   opens : Stands files 0 lister (files .STIM) panel (programOf (files .MOD)) (openingBytes (files .NET) (files .MOD) (files .STIM)) (listed shownLength (λ a. notShown))
   opens =
       let net = net-accepted panelLimit files accepted in
       let table = mod-accepted panelLimit files accepted in
       let size = loaded-tables (files .NET) (files .MOD) net table (files .STIM) .panel-size in
-      let head = loaded-head (files .NET) (files .MOD) net table (files .STIM) in
       opened files accepted lister panel (programOf (files .MOD)) (openingBytes (files .NET) (files .MOD) (files .STIM)) (listed shownLength (λ a. notShown))
       refl refl refl
       (decoded panel (listed 4097 (handIn panel)) size refl _ _ _ refl refl refl)
-      (own-head panel size (omega (arith, head .0)) (omega (arith, head .1)))
-      (first-later .1) refl refl refl
+      (lines-passed (networkOf files) (files .STIM) (stim-accepted panelLimit files accepted) 0) refl refl refl
 
   lists : (text : List ℕ) × Prints files text
   lists =
@@ -240,6 +217,10 @@ prints-printed files =
     let some = prints-some (firstBytes files) in
     subst (Prints (firstBytes files)) (program-prints files (some .0) (some .1)) (some .1)
 
--- so that demand 2 is said of some program
-pub some-demand-2 : Demand2 panelLimit (printed panelLimit)
-some-demand-2 = program-demand-2 (printed panelLimit) prints-printed
+-- Both halves at once: the program prints a text for the files exactly when it is `printed` of them
+pub prints-exact : (files : Files) (text : List ℕ) → Prints (firstBytes files) text ↔ (text ≡ printed panelLimit files)
+prints-exact files text = (program-prints files text, λ e. subst (Prints (firstBytes files)) (sym e) (prints-printed files))
+
+-- Demand 2 of the text that there is: for all files the one that `prints-some` gives
+pub some-demand-2 : Demand2 panelLimit (λ files. prints-some (firstBytes files) .0)
+some-demand-2 = program-demand-2 (λ files. prints-some (firstBytes files) .0) (λ files. prints-some (firstBytes files) .1)

@@ -1,6 +1,6 @@
 -- The lines of changes are the piece: signal by signal, whatever functions give the values and what was shown.
 use Prim.Native.Nat.{ℕ, zero, suc, _*_, _≤_}
-use mathlib.Core.Path.{_≡_}
+use mathlib.Core.Path.{_≡_, _∙_}
 use mathlib.Core.List.{List, [], _∷_}
 use native.Mathlib.Omega.{arith}
 use mathlib.Core.Bool.{Bool, true, false}
@@ -20,8 +20,9 @@ use Rattle.model.proofs.Accepted.{net-accepted, net-size, stim-accepted, stim-r
 use Rattle.model.proofs.Demands.{joined-same}
 use Rattle.listing.specs.Changes.{pieceLength, notShown, changeLine, changeLines}
 use Rattle.listing.specs.Pieces.{pieceAt}
+use Rattle.listing.specs.Buffers.{shownAt}
 use Rattle.listing.proofs.Changes.{length-line}
-use Rattle.listing.specs.Standing.{shownAt}
+use Rattle.listing.proofs.Buffers.{shown-signal}
 
 joined-short : (f : ℕ → List ℕ) → ((j : ℕ) → length (f j) ≤ 19) → (n : ℕ) → length (joined n f) ≤ 19 * n
 unfolding joined
@@ -52,7 +53,7 @@ module _ (files : Files) (accepted : Accepted panelLimit files) where
         rw (lt-ltb t (endTime (files .STIM)) (omega arith))
         (joined-same (networkOf files .size) _ _ (λ j l.
         let g : Signal (networkOf files) (suc j) = record { low = omega arith; high = l } in
-        rw (v (suc j) g, u (suc j) g)))
+        rw (v (suc j) g, u (suc j) g ∙ shown-signal files t (omega arith) (suc j) g)))
 
   -- the last piece
   pub piece-last : (k : ℕ) → k ≡ suc (endTime (files .STIM)) → lineText (endTime (files .STIM) ∷ 0 ∷ 0 ∷ []) ≡ pieceAt files k

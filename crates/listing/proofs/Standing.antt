@@ -1,6 +1,6 @@
 -- A listing stands by the files through every step: what it asks of the functions that make a piece, what the piece is, and how the
 -- listing stands after it.
-use Prim.Native.Nat.{ℕ, zero, suc, _+_, _<_, _≤_}
+use Prim.Native.Nat.{ℕ, zero, suc, _+_, _*_, _<_, _≤_}
 use mathlib.Core.Path.{_≡_, refl, sym, subst, _∙_, ap}
 use mathlib.Core.List.{List, [], _∷_}
 use native.Mathlib.Omega.{arith}
@@ -9,40 +9,45 @@ use lib.ListN.{length, getD}
 use lib.Seq.{sets}
 use borrow.Author.Tests.{le-leb, eq-eqb}
 use Rattle.logic.proofs.Tests.{and-true}
+use Rattle.logic.proofs.Listed.{listed-length, listed-at}
 use Rattle.writing.specs.Text.{lineText}
 use Rattle.fields.proofs.LowHalf.{number-small}
 use Rattle.model.specs.Refusal.{pass}
 use Rattle.model.specs.Files.{Files}
 use Rattle.model.specs.Network.{Network, Signal, input}
-use Rattle.model.specs.Value.{history}
-use Rattle.model.specs.Stimulus.{stimLine, stimTime, stimCheck, stimCount, endTime, lastGiven, held}
+use Rattle.model.specs.Netlist.{network}
+use Rattle.model.specs.Stimulus.{stimLine, stimTime, stimCheck, stimCount, endTime, held}
 use Rattle.model.specs.Acceptance.{panelLimit, networkOf, scheduleOf, Accepted}
-use Rattle.model.specs.Session.{Head}
+use Rattle.model.specs.Session.{Head, Watch}
 use Rattle.model.specs.Listing.{valueAt}
-use Rattle.model.proofs.Accepted.{stim-accepted, stim-right, times-rise}
+use Rattle.model.proofs.Accepted.{net-accepted, stim-accepted, net-size, stim-right, times-rise}
 use Rattle.memory.specs.Memory.{memoryOf, MemoryBytes}
 use Rattle.memory.specs.Memory.{held as heldIn}
 use Rattle.tables.specs.Panel.{signalsIn, processorsIn, slotsIn, kindIn, handIn, processorIn}
-use Rattle.tables.specs.Tables.{networkIn}
+use Rattle.tables.specs.Tables.{networkIn, moduleIn}
 use Rattle.tables.specs.Holding.{Holding}
-use Rattle.ranges.proofs.Ranged.{head-ranged, ranged-memory}
+use Rattle.ranges.proofs.Ranged.{head-ranged, panel-in-range, ranged-memory}
 use Rattle.machine.specs.Running.{cycleIn}
-use Rattle.engine.proofs.Valued.{Holds, place-holds, cycle-holds}
 use Rattle.header.specs.Header.{headOf, withHead}
 use Rattle.header.specs.Commands.{signalIn, inputIn}
+use Rattle.header.proofs.Heads.{same-head, past-end}
 use Rattle.session.proofs.Watched.{ranged-processor}
-use Rattle.kept.proofs.Heads.{with-head-hand, with-head-processors, with-head-slots}
-use Rattle.kept.proofs.Holding.{signal-high, with-head-holding}
+use Rattle.kept.proofs.Panels.{head-in-range}
+use Rattle.kept.proofs.Sound.{Sound}
+use Rattle.kept.proofs.Holding.{with-head-holding}
 use Rattle.stimulus.proofs.Passed.{nothing-later, given-by-then}
 use Rattle.stimulus.proofs.Steps.{line-right, time-field}
 use Rattle.listing.specs.declared.Lister.{Lister}
 use Rattle.listing.specs.declared.Piece.{Piece}
-use Rattle.listing.specs.Changes.{valueHeld, changeLines, Shows}
+use Rattle.listing.specs.Changes.{shownLength, valueHeld, changeLines, shownWith}
 use Rattle.listing.specs.Feeding.{Stimulus, Passed, Feeds, InHand, Fed}
 use Rattle.listing.specs.Cycling.{Right, Ready, InPanel, cycled}
 use Rattle.listing.specs.Pieces.{pieceAt}
-use Rattle.listing.specs.Standing.{shownAt, Stands, Gives}
-use Rattle.listing.proofs.Cycling.{cycle-right, cycle-sound}
+use Rattle.listing.specs.Buffers.{cyclesAfter, lineAt, handAt, panelAt, panelAfter, memoryAt, shownAt, shownAfter, headAt, headAfter}
+use Rattle.listing.specs.Standing.{Stands, Gives}
+use Rattle.listing.proofs.Feeding.{lines-passed, passed-line}
+use Rattle.listing.proofs.Cycling.{fresh-head, cycle-right}
+use Rattle.listing.proofs.Buffers.{cycles-at, cycles-last, shown-last, hand-signal, hand-none, panel-next, panel-holding, panel-hand, panel-none, places-hold, memory-next, shown-next}
 use Rattle.listing.proofs.Pieces.{piece-is, piece-last, piece-short}
 
 -- T is a number of a right field
@@ -62,59 +67,64 @@ module _ {panel program memory : List ℕ} (right : Right panel program memory) 
   pub right-memory : MemoryBytes memory
   right-memory = ranged-memory panel program memory (right .sizes .memory-size) (right .range)
 
-module _ (files : Files) (accepted : Accepted panelLimit files) where
-  abbrev n : Network
-  n = networkOf files
+-- a panel that watches nothing and its values in hand are a sound head, whatever the cycles finished
+panel-sound : {panel program memory : List ℕ} → Right panel program memory → handIn panel 0 ≡ 1 → (t : ℕ)
+    → Sound panel (record { finished = t; hand = handIn panel; watch = record { signal = 1; mask = 0 } })
+panel-sound {panel} {program} {memory} right none t =
+    let r = panel-in-range panel program memory (right .range) in
+    let own = head-in-range panel r in
+    record {
+      range = record {
+        watched-low = omega arith;
+        watched-high = r .head .signals-low;
+        mask-high = omega arith;
+        hands = own .hands;
+        rest = own .rest;
+      };
+      zeroth = none;
+      beyond = λ s l. past-end panel (10 * s + 7) (omega (arith, right .sizes .panel-size));
+    }
 
-  abbrev stim : List ℕ
-  stim = files .STIM
+-- the changes that write_changes gives are a piece, and it shows what the piece tells
+module _ (files : Files) (accepted : Accepted panelLimit files) (t : ℕ) (more : t ≤ endTime (files .STIM)) (panel program : List ℕ)
+    (holding : Holding (networkOf files) (scheduleOf files) panel program) (memory : List ℕ) (memory-is : memory ≡ memoryAt files t)
+    (shown : List ℕ) (shown-is : shown ≡ shownAfter files t) where
+  size-is : signalsIn panel ≡ networkOf files .size
+  unfolding networkIn
+  size-is = holding .signals .size
 
-  passes : stimCheck n stim ≡ pass
-  passes = stim-accepted panelLimit files accepted
+  values-held : (s : ℕ) → Signal (networkOf files) s → valueHeld panel memory s ≡ valueAt files t s
+  values-held s g = ap (λ (x : List ℕ). valueHeld panel x s) memory-is ∙ places-hold files accepted panel program holding t s g
 
-  module _ (panel program : List ℕ) (holding : Holding n (scheduleOf files) panel program) where
-    size-is : signalsIn panel ≡ n .size
-    unfolding networkIn
-    size-is = holding .signals .size
+  told : (s : ℕ) → Signal (networkOf files) s → getD shown s 0 ≡ shownAt files t s
+  unfolding network
+  told s g =
+      ap (λ (x : List ℕ). getD x s 0) shown-is
+      ∙ listed-at shownLength (shownAt files t) s (omega (arith, g .high, net-size panelLimit (files .NET) (net-accepted panelLimit files accepted)))
 
-    -- the values at the signals' places
-    values-held : (memory : List ℕ) (t : ℕ) → Holds files accepted memory (history (held stim) t) → (s : ℕ) → Signal n s
-        → valueHeld panel memory s ≡ valueAt files t s
-    unfolding memoryOf valueAt
-    values-held memory t holds s g = place-holds files accepted panel program holding memory (history (held stim) t) holds s g
+  piece-given : changeLines (signalsIn panel) t (valueHeld panel memory) (λ s. getD shown s 0) ≡ pieceAt files t
+  piece-given =
+      ap (λ (k : ℕ). changeLines k t (valueHeld panel memory) (λ s. getD shown s 0)) size-is
+      ∙ piece-is files accepted (valueHeld panel memory) (λ s. getD shown s 0) t more values-held told
 
-    -- the network's inputs are the panel's
-    feeds : Feeds n stim panel
-    unfolding inputIn signalIn networkIn
-    feeds =
-        record {
-          passes = passes;
-          inputs = λ s g i.
-              and-true _ _ (and-true _ _ (le-leb 1 s (g .low)) (le-leb s (signalsIn panel) (omega (arith, g .high, size-is))))
-              (eq-eqb (kindIn panel s) input (holding .signals .kinds s g ∙ i));
-        }
-
-    -- the lines that write_changes gives are a piece, and it shows what the piece tells
-    piece-given : (memory shown : List ℕ) (t : ℕ) → t ≤ endTime stim → Holds files accepted memory (history (held stim) t)
-        → ((s : ℕ) → Signal n s → getD shown s 0 ≡ shownAt files t s)
-        → changeLines (signalsIn panel) t (valueHeld panel memory) (λ s. getD shown s 0) ≡ pieceAt files t
-    piece-given memory shown t h holds told =
-        ap (λ (k : ℕ). changeLines k t (valueHeld panel memory) (λ s. getD shown s 0)) size-is
-        ∙ piece-is files accepted (valueHeld panel memory) (λ s. getD shown s 0) t h (values-held memory t holds) told
-
-    told-next : (memory shown : List ℕ) (t : ℕ) → Holds files accepted memory (history (held stim) t)
-        → Shows (signalsIn panel) (valueHeld panel memory) shown → (s : ℕ) → Signal n s → getD shown s 0 ≡ shownAt files (suc t) s
-    unfolding shownAt
-    told-next memory shown t holds shows s g =
-        shows .values-shown s (g .low) (omega (arith, g .high, size-is)) ∙ values-held memory t holds s g
+  shown-given : shownWith (signalsIn panel) (valueHeld panel memory) (λ s. getD shown s 0) ≡ shownAfter files (suc t)
+  shown-given =
+      ap (λ (k : ℕ). shownWith k (valueHeld panel memory) (λ s. getD shown s 0)) size-is
+      ∙ ap (λ (x : List ℕ). shownWith (networkOf files .size) (valueHeld panel memory) (λ s. getD x s 0)) shown-is
+      ∙ shown-next files accepted t more (valueHeld panel memory) values-held
 
 -- what a listing that stands gives to the functions that it calls
 module _ {files : Files} {k : ℕ} {l : Lister} {stim panel program memory shown : List ℕ} (s : Stands files k l stim panel program memory shown) where
   pub stands-stimulus : Stimulus stim
   stands-stimulus = record { network = networkOf files; passes = rw (s .stimulus) (stim-accepted panelLimit files (s .accepted)) }
 
+  stands-passed : Passed (files .STIM) (cyclesAfter files k) (l .cursor .line)
+  stands-passed =
+      subst (Passed (files .STIM) (cyclesAfter files k)) (sym (s .line-is))
+      (lines-passed (networkOf files) (files .STIM) (stim-accepted panelLimit files (s .accepted)) (cyclesAfter files k))
+
   pub stands-few : l .cursor .line ≤ stimCount stim
-  stands-few = rw (s .stimulus) (s .passed .few)
+  stands-few = rw (s .stimulus) (stands-passed .few)
 
   pub stands-end : l .end .0 ≤ 65535
   stands-end = omega (arith, s .end, end-small (networkOf files) (files .STIM) (stim-accepted panelLimit files (s .accepted)))
@@ -122,62 +132,112 @@ module _ {files : Files} {k : ℕ} {l : Lister} {stim panel program memory shown
   pub stands-pieces : l .pieces ≤ l .end .0 + 1
   stands-pieces = omega (arith, s .given, s .left, s .end)
 
+  stands-holding : Holding (networkOf files) (scheduleOf files) panel program
+  stands-holding =
+      subst (λ (x : List ℕ). Holding (networkOf files) (scheduleOf files) x program) (sym (s .panel-is))
+      (subst (λ (x : List ℕ). Holding (networkOf files) (scheduleOf files) (panelAfter files k) x) (sym (s .program-is))
+      (panel-holding files (s .accepted) (cyclesAfter files k)))
+
+  -- the session has the panel's values in hand
+  own-session : headOf (l .session) ≡ record { finished = cyclesAfter files k; hand = handIn panel; watch = record { signal = 1; mask = 0 } }
+  own-session =
+      s .session-is
+      ∙ ap (λ (x : List ℕ). record { finished = cyclesAfter files k; hand = handIn x; watch = record { signal = 1; mask = 0 } }) (sym (s .panel-is))
+
+  pub stands-sound : Sound panel (headOf (l .session))
+  stands-sound =
+      subst (Sound panel) (sym own-session)
+      (panel-sound (s .right) (ap (λ (x : List ℕ). handIn x 0) (s .panel-is) ∙ panel-none files (s .accepted) (cyclesAfter files k)) (cyclesAfter files k))
+
+  -- A piece is given, and the listing stands after it
+  module _ {lent out panel′ memory′ shown′ : List ℕ} {p : Piece} (text : List ℕ) (is : text ≡ pieceAt files k) (size : p .length ≡ length text)
+      (bytes : out ≡ sets lent 0 text) (given : p .lister .pieces ≡ l .pieces + 1) (end : p .lister .end .0 ≡ l .end .0)
+      (t : ℕ) (cycles : cyclesAfter files (suc k) ≡ t) (line : p .lister .cursor .line ≡ lineAt files t)
+      (session : headOf (p .lister .session) ≡ headAt files t) (panel-left : panel′ ≡ panelAt files t) (memory-left : memory′ ≡ memoryAt files t)
+      (shown-left : shown′ ≡ shownAfter files (suc k)) (right : Right panel′ program memory′) where
+    gives : Gives files k lent p out stim panel′ program memory′ shown′
+    gives =
+        record {
+          size = size ∙ ap length is;
+          short = rw (size ∙ ap length is) (piece-short files (s .accepted) k);
+          bytes = bytes ∙ ap (sets lent 0) is;
+          given = count;
+          end = end ∙ s .end;
+          line-is = line ∙ ap (lineAt files) (sym cycles);
+          session-is = session-left;
+          panel-is = panel-left ∙ ap (panelAt files) (sym cycles);
+          memory-is = memory-left ∙ ap (memoryAt files) (sym cycles);
+          shown-is = shown-left;
+          next = λ b.
+              record {
+                accepted = s .accepted;
+                stimulus = s .stimulus;
+                left = omega arith;
+                given = count;
+                end = end ∙ s .end;
+                line-is = line ∙ ap (lineAt files) (sym cycles);
+                session-is = session-left;
+                panel-is = panel-left ∙ ap (panelAt files) (sym cycles);
+                program-is = s .program-is;
+                memory-is = memory-left ∙ ap (memoryAt files) (sym cycles);
+                shown-is = shown-left;
+                right = right;
+                shown-size = ap length shown-left ∙ listed-length shownLength (shownAt files (suc k));
+              };
+        }
+      where
+        count : p .lister .pieces ≡ suc k
+        count = omega (arith, given, s .given)
+
+        session-left : headOf (p .lister .session) ≡ headAfter files (suc k)
+        session-left = session ∙ ap (headAt files) (sym cycles)
+
+  -- a piece without a cycle
+  gives-still : cyclesAfter files (suc k) ≡ cyclesAfter files k → {lent out shown′ : List ℕ} {p : Piece} (text : List ℕ) → text ≡ pieceAt files k
+      → p .length ≡ length text → out ≡ sets lent 0 text
+      → p .lister ≡ record { session = l .session; cursor = l .cursor; end = l .end; pieces = l .pieces + 1 }
+      → shown′ ≡ shownAfter files (suc k) → Gives files k lent p out stim panel program memory shown′
+  gives-still same {p = p} text is size bytes after shown-left =
+      gives text is size bytes (ap (λ (x : Lister). x .pieces) after) (ap (λ (x : Lister). x .end .0) after) (cyclesAfter files k) same
+      (ap (λ (x : Lister). x .cursor .line) after ∙ s .line-is)
+      (ap (λ (x : Lister). headOf (x .session)) after ∙ s .session-is) (s .panel-is) (s .memory-is) shown-left (s .right)
+
   -- the last line
-  pub gives-last : l .end .0 < l .pieces → (lent out panel′ memory′ shown′ : List ℕ) (p : Piece) → p .length ≡ length (lineText (l .end .0 ∷ 0 ∷ 0 ∷ []))
-      → out ≡ sets lent 0 (lineText (l .end .0 ∷ 0 ∷ 0 ∷ [])) → p .lister .pieces ≡ l .pieces + 1
-      → Gives files k lent p out stim panel′ program memory′ shown′
-  gives-last h lent out panel′ memory′ shown′ p size bytes given =
+  pub gives-last : l .end .0 < l .pieces → (lent out : List ℕ) (p : Piece) → p .length ≡ length (lineText (l .end .0 ∷ 0 ∷ 0 ∷ []))
+      → out ≡ sets lent 0 (lineText (l .end .0 ∷ 0 ∷ 0 ∷ []))
+      → p .lister ≡ record { session = l .session; cursor = l .cursor; end = l .end; pieces = l .pieces + 1 }
+      → Gives files k lent p out stim panel program memory shown
+  gives-last h lent out p size bytes after =
       let last : k ≡ suc (endTime (files .STIM)) = omega (arith, s .given, s .left, s .end) in
-      let is = ap (λ (t : ℕ). lineText (t ∷ 0 ∷ 0 ∷ [])) (s .end) ∙ piece-last files (s .accepted) k last in
-      record {
-        size = size ∙ ap length is;
-        short = rw (size ∙ ap length is) (piece-short files (s .accepted) _);
-        bytes = bytes ∙ ap (sets lent 0) is;
-        given = omega (arith, given, s .given);
-        next = λ q. absurd (omega arith);
-      }
+      gives-still (subst (λ (x : ℕ). cyclesAfter files (suc x) ≡ cyclesAfter files x) (sym last) (cycles-last files))
+      (lineText (l .end .0 ∷ 0 ∷ 0 ∷ []))
+      (ap (λ (t : ℕ). lineText (t ∷ 0 ∷ 0 ∷ [])) (s .end) ∙ piece-last files (s .accepted) k last)
+      size bytes after
+      (s .shown-is ∙ sym (subst (λ (x : ℕ). shownAfter files (suc x) ≡ shownAfter files x) (sym last) (shown-last files)))
 
 -- time 0
 pub gives-first : {files : Files} {l : Lister} {stim panel program memory shown : List ℕ} (s : Stands files 0 l stim panel program memory shown)
     (lent out shown′ : List ℕ) (p : Piece)
     → p .length ≡ length (changeLines (signalsIn panel) 0 (valueHeld panel memory) (λ x. getD shown x 0))
     → out ≡ sets lent 0 (changeLines (signalsIn panel) 0 (valueHeld panel memory) (λ x. getD shown x 0))
-    → Shows (signalsIn panel) (valueHeld panel memory) shown′
+    → shown′ ≡ shownWith (signalsIn panel) (valueHeld panel memory) (λ x. getD shown x 0)
     → p .lister ≡ record { session = l .session; cursor = l .cursor; end = l .end; pieces = 1 }
     → Gives files 0 lent p out stim panel program memory shown′
+unfolding cyclesAfter
 gives-first {files} {l} {stim} {panel} {program} {memory} {shown} s lent out shown′ p size bytes shows after =
-    let is = piece-given files (s .accepted) panel program (s .holding) memory shown 0 (omega arith) (s .holds) (s .told) in
-    record {
-      size = size ∙ ap length is;
-      short = rw (size ∙ ap length is) (piece-short files (s .accepted) _);
-      bytes = bytes ∙ ap (sets lent 0) is;
-      given = ap (λ (x : Lister). x .pieces) after;
-      next = λ h. subst (λ (x : Lister). Stands files 1 x stim panel program memory shown′) (sym after)
-          (record {
-            accepted = s .accepted;
-            stimulus = s .stimulus;
-            given = refl;
-            end = s .end;
-            left = omega arith;
-            finished = s .finished;
-            mask = s .mask;
-            right = s .right;
-            sound = s .sound;
-            in-panel = s .in-panel;
-            passed = s .passed;
-            hands = s .hands;
-            holding = s .holding;
-            holds = s .holds;
-            shown-size = shows .size;
-            told = told-next files (s .accepted) panel program (s .holding) memory shown′ 0 (s .holds) shows;
-          });
-    }
+    gives-still s (cycles-at files 0 (omega arith)) _
+    (piece-given files (s .accepted) 0 (omega arith) panel program (stands-holding s) memory (s .memory-is) shown (s .shown-is)) size bytes
+    (after ∙ ap (λ (x : ℕ). record { session = l .session; cursor = l .cursor; end = l .end; pieces = x }) (let e : 1 ≡ l .pieces + 1 = omega (arith, s .given) in e))
+    (shows ∙ shown-given files (s .accepted) 0 (omega arith) panel program (stands-holding s) memory (s .memory-is) shown (s .shown-is))
 
 -- a cycle, t being finished: its settings
 module _ {files : Files} {t : ℕ} {l : Lister} {stim panel program memory shown : List ℕ}
     (s : Stands files (suc t) l stim panel program memory shown) (more : suc t ≤ endTime (files .STIM)) {h : Head} {next : ℕ}
     (fed : Fed stim panel (suc t) (l .cursor .line) (headOf (l .session)) h next)
     (stops : next < stimCount stim → stimTime stim next ≡ suc t → ⊥) where
+  abbrev n : Network
+  n = networkOf files
+
   abbrev given-stim : List ℕ
   given-stim = files .STIM
 
@@ -187,21 +247,34 @@ module _ {files : Files} {t : ℕ} {l : Lister} {stim panel program memory shown
   stops-here : next < stimCount given-stim → stimTime given-stim next ≡ suc t → ⊥
   stops-here = subst (λ (x : List ℕ). next < stimCount x → stimTime x next ≡ suc t → ⊥) (s .stimulus) stops
 
-  accepts : stimCheck (networkOf files) given-stim ≡ pass
+  accepts : stimCheck n given-stim ≡ pass
   accepts = stim-accepted panelLimit files (s .accepted)
+
+  -- the listing as it stands, by t
+  now : cyclesAfter files (suc t) ≡ t
+  now = cycles-at files t (omega arith)
+
+  session-here : headOf (l .session) ≡ headAt files t
+  session-here = s .session-is ∙ ap (headAt files) now
+
+  panel-here : panel ≡ panelAt files t
+  panel-here = s .panel-is ∙ ap (panelAt files) now
+
+  passed-here : Passed given-stim t (l .cursor .line)
+  passed-here = subst (λ (x : ℕ). Passed given-stim x (l .cursor .line)) now (stands-passed s)
 
   pub stands-ready : Ready h panel program memory
   stands-ready =
       record {
         right = s .right;
-        sound = fed .sound (right-signals (s .right)) (s .sound);
-        mask = rw (fed .watch) (s .mask);
-        left = omega (arith, fed .finished, s .finished, end-small (networkOf files) given-stim accepts);
+        sound = fed .sound (right-signals (s .right)) (stands-sound s);
+        mask = ap (λ (w : Watch). w .mask) (fed .watch) ∙ ap (λ (x : Head). x .watch .mask) session-here;
+        left = omega (arith, fed .finished, ap (λ (x : Head). x .finished) session-here, end-small n given-stim accepts);
       }
 
   -- a session that was not fed has its values in the panel
   pub stands-unfed : next ≡ l .cursor .line → InPanel panel h
-  stands-unfed e x low high = s .in-panel x low high ∙ sym (fed .unfed e x)
+  stands-unfed e x low high = sym (ap (λ (q : Head). q .hand x) (own-session s)) ∙ sym (fed .unfed e x)
 
   passed-next : Passed given-stim (suc t) next
   passed-next =
@@ -209,85 +282,101 @@ module _ {files : Files} {t : ℕ} {l : Lister} {stim panel program memory shown
         few = fed-here .few;
         earlier = λ k b. before k b (decLt k (l .cursor .line));
         later = λ b.
-            let start = s .passed .later (omega (arith, fed-here .low)) in
-            let rise = times-rise (networkOf files) given-stim (stim-right (networkOf files) given-stim accepts) (l .cursor .line) next (fed-here .low) (fed-here .few) in
+            let start = passed-here .later (omega (arith, fed-here .low)) in
+            let rise = times-rise n given-stim (stim-right n given-stim accepts) (l .cursor .line) next (fed-here .low) (fed-here .few) in
             above b (ℕ-discrete (stimTime given-stim next) (suc t)) (omega arith);
       }
     where
       before : (k : ℕ) → k < next → Dec (k < l .cursor .line) → stimTime given-stim k ≤ suc t
-      before k b (yes q) = omega (arith, s .passed .earlier k q)
+      before k b (yes q) = omega (arith, passed-here .earlier k q)
       before k b (no d) = omega (arith, fed-here .times k (omega arith) b)
 
       above : next < stimCount given-stim → Dec (stimTime given-stim next ≡ suc t) → suc t ≤ stimTime given-stim next → suc t < stimTime given-stim next
       above b (yes q) r = absurd (stops-here b q)
       above b (no d) r = omega arith
 
-  hands-next : InHand (networkOf files) given-stim (suc t) next h
-  hands-next =
-      fed-here .hands (networkOf files) (feeds files (s .accepted) panel program (s .holding)) (omega arith)
-      (λ x g i. s .hands x g i ∙ given-by-then given-stim t (suc t) (l .cursor .line) (s .passed .earlier) (omega arith) x)
+  size-here : signalsIn panel ≡ n .size
+  unfolding networkIn
+  size-here = stands-holding s .signals .size
+
+  -- the network's inputs are the panel's
+  feeds : Feeds n given-stim panel
+  unfolding inputIn signalIn networkIn
+  feeds =
+      record {
+        passes = accepts;
+        inputs = λ x g i.
+            and-true _ _ (and-true _ _ (le-leb 1 x (g .low)) (le-leb x (signalsIn panel) (omega (arith, g .high, size-here))))
+            (eq-eqb (kindIn panel x) input (stands-holding s .signals .kinds x g ∙ i));
+      }
+
+  -- the values in hand before the settings and after them, which the lines passed gave last
+  hands-here : InHand n given-stim (suc t) (l .cursor .line) (headOf (l .session))
+  unfolding held
+  hands-here x g =
+      ap (λ (q : Head). q .hand x) session-here
+      ∙ panel-hand files (s .accepted) t x g
+      ∙ nothing-later n given-stim accepts t (l .cursor .line) (passed-here .later) x (stimCount given-stim) (passed-here .few) (omega arith)
+      ∙ given-by-then given-stim t (suc t) (l .cursor .line) (passed-here .earlier) (omega arith) x
+
+  hands-next : (x : ℕ) → Signal n x → h .hand x ≡ held given-stim (suc t) x
+  unfolding held
+  hands-next x g =
+      fed-here .hands n feeds (omega arith) hands-here x g
+      ∙ sym (nothing-later n given-stim accepts (suc t) next (passed-next .later) x (stimCount given-stim) (fed-here .few) (omega arith))
 
   abbrev fresh : List ℕ
   fresh = withHead h panel
 
-  fresh-holding : Holding (networkOf files) (scheduleOf files) fresh program
-  fresh-holding = with-head-holding h panel program (right-signals (s .right)) (s .holding)
+  -- so the panel is that of one cycle more
+  fresh-is : fresh ≡ panelAt files (suc t)
+  fresh-is =
+      ap (withHead h) panel-here
+      ∙ panel-next files t h (fed .finished ∙ ap (λ (q : Head). q .finished) session-here) (fed .watch ∙ ap (λ (q : Head). q .watch) session-here)
+      (λ x low high. hand x low high (decLt (n .size) x))
+    where
+      hand : (x : ℕ) → 1 ≤ x → x ≤ 4096 → Dec (n .size < x) → h .hand x ≡ handAt files (suc t) x
+      hand x low high (yes q) = stands-ready .sound .range .rest x (omega (arith, size-here)) high ∙ sym (hand-none files (suc t) x q)
+      hand x low high (no d) =
+          let g : Signal n x = record { low = low; high = omega arith } in
+          hands-next x g ∙ sym (hand-signal files (suc t) x g)
 
-  -- the row of the cycle: each input has the value that STIM last gave it
-  row-is : (x : ℕ) → Signal (networkOf files) x → networkOf files .kind x ≡ input → handIn fresh x ≡ held given-stim (suc t) x
-  unfolding held
-  row-is x g i =
-      with-head-hand h panel x (g .low) (signal-high panel program (networkOf files) x (right-signals (s .right)) (s .holding .signals) g)
-      ∙ hands-next x g i
-      ∙ sym (nothing-later (networkOf files) given-stim accepts (suc t) next (passed-next .later) x (stimCount given-stim) (fed-here .few) (omega arith))
+  fresh-holding : Holding n (scheduleOf files) fresh program
+  fresh-holding = with-head-holding h panel program (right-signals (s .right)) (stands-holding s)
 
   -- and then the cycle
   module _ (memory′ : List ℕ) (left : memory′ ≡ heldIn (processorsIn panel) (slotsIn panel) (cycleIn fresh program (memoryOf memory)) memory) where
     pub cycle-stands : Right fresh program memory′
     cycle-stands = cycle-right h panel program memory stands-ready memory′ left
 
-    holds-next : Holds files (s .accepted) memory′ (history (held given-stim) (suc t))
-    unfolding history
-    holds-next =
-        cycle-holds files (s .accepted) fresh program fresh-holding memory memory′ (held given-stim (suc t)) (history (held given-stim) t) row-is (s .holds)
+    memory-left : memory′ ≡ memoryAt files (suc t)
+    unfolding moduleIn
+    memory-left =
+        memory-next files (s .accepted) t memory memory′ (s .memory-is ∙ ap (memoryAt files) now)
         (left
-        ∙ ap (λ (p : ℕ). heldIn p (slotsIn panel) (cycleIn fresh program (memoryOf memory)) memory) (sym (with-head-processors h panel))
-        ∙ ap (λ (c : ℕ). heldIn (processorsIn fresh) c (cycleIn fresh program (memoryOf memory)) memory) (sym (with-head-slots h panel)))
+        ∙ ap (λ (p : ℕ). heldIn p (slotsIn panel) (cycleIn fresh program (memoryOf memory)) memory) (stands-holding s .lines .processors)
+        ∙ ap (λ (c : ℕ). heldIn (scheduleOf files .processors) c (cycleIn fresh program (memoryOf memory)) memory) (stands-holding s .lines .slots)
+        ∙ ap (λ (x : List ℕ). heldIn (scheduleOf files .processors) (scheduleOf files .slots) (cycleIn x program (memoryOf memory)) memory) fresh-is
+        ∙ ap (λ (x : List ℕ). heldIn (scheduleOf files .processors) (scheduleOf files .slots) (cycleIn (panelAt files (suc t)) x (memoryOf memory)) memory) (s .program-is))
+
+    session-left : cycled h ≡ headAt files (suc t)
+    session-left =
+        same-head _ _ _ _ _ _ _ _ (omega (arith, fed .finished, ap (λ (q : Head). q .finished) session-here))
+        (λ x. ap (λ (q : Head). q .hand x) (fresh-head h panel program memory stands-ready) ∙ ap (λ (q : List ℕ). handIn q x) fresh-is)
+        (ap (λ (w : Watch). w .signal) (fed .watch) ∙ ap (λ (q : Head). q .watch .signal) session-here) (stands-ready .mask)
 
     pub gives-cycle : (lent out shown′ : List ℕ) (p : Piece)
         → p .length ≡ length (changeLines (signalsIn fresh) (suc t) (valueHeld fresh memory′) (λ x. getD shown x 0))
         → out ≡ sets lent 0 (changeLines (signalsIn fresh) (suc t) (valueHeld fresh memory′) (λ x. getD shown x 0))
-        → Shows (signalsIn fresh) (valueHeld fresh memory′) shown′
+        → shown′ ≡ shownWith (signalsIn fresh) (valueHeld fresh memory′) (λ x. getD shown x 0)
         → headOf (p .lister .session) ≡ cycled h → p .lister .cursor .line ≡ next → p .lister .end .0 ≡ l .end .0 → p .lister .pieces ≡ l .pieces + 1
         → Gives files (suc t) lent p out stim fresh program memory′ shown′
     gives-cycle lent out shown′ p size bytes shows head line end count =
-        let is = piece-given files (s .accepted) fresh program fresh-holding memory′ shown (suc t) more holds-next (s .told) in
-        record {
-          size = size ∙ ap length is;
-          short = rw (size ∙ ap length is) (piece-short files (s .accepted) _);
-          bytes = bytes ∙ ap (sets lent 0) is;
-          given = omega (arith, count, s .given);
-          next = λ b.
-              record {
-                accepted = s .accepted;
-                stimulus = s .stimulus;
-                given = omega (arith, count, s .given);
-                end = end ∙ s .end;
-                left = omega arith;
-                finished = ap (λ (x : Head). x .finished) head ∙ omega (arith, fed .finished, s .finished);
-                mask = ap (λ (x : Head). x .watch .mask) head ∙ stands-ready .mask;
-                right = cycle-stands;
-                sound = rw head (cycle-sound h panel program memory stands-ready);
-                in-panel = λ x low high. with-head-hand h panel x low high ∙ sym (ap (λ (q : Head). q .hand x) head);
-                passed = rw line passed-next;
-                hands = λ x g i.
-                    ap (λ (q : Head). q .hand x) head ∙ hands-next x g i ∙ ap (λ (y : ℕ). lastGiven given-stim (suc t) x y) (sym line);
-                holding = fresh-holding;
-                holds = holds-next;
-                shown-size = shows .size;
-                told = told-next files (s .accepted) fresh program fresh-holding memory′ shown′ (suc t) holds-next shows;
-              };
-        }
+        gives s _
+        (piece-given files (s .accepted) (suc t) more fresh program fresh-holding memory′ memory-left shown (s .shown-is)) size bytes count end
+        (suc t) (cycles-at files (suc t) more) (line ∙ passed-line n given-stim accepts (suc t) next passed-next) (head ∙ session-left) fresh-is memory-left
+        (shows ∙ shown-given files (s .accepted) (suc t) more fresh program fresh-holding memory′ memory-left shown (s .shown-is))
+        cycle-stands
 
 -- the same by the number of pieces that the listing itself keeps
 module _ {files : Files} {k : ℕ} {l : Lister} {stim panel program memory shown : List ℕ} (s : Stands files k l stim panel program memory shown) where
@@ -303,7 +392,7 @@ pub gives-zeroth : {files : Files} (m : ℕ) {l : Lister} {stim panel program me
     → Stands files m l stim panel program memory shown → (lent out shown′ : List ℕ) (p : Piece)
     → p .length ≡ length (changeLines (signalsIn panel) 0 (valueHeld panel memory) (λ x. getD shown x 0))
     → out ≡ sets lent 0 (changeLines (signalsIn panel) 0 (valueHeld panel memory) (λ x. getD shown x 0))
-    → Shows (signalsIn panel) (valueHeld panel memory) shown′
+    → shown′ ≡ shownWith (signalsIn panel) (valueHeld panel memory) (λ x. getD shown x 0)
     → p .lister ≡ record { session = l .session; cursor = l .cursor; end = l .end; pieces = 1 }
     → Gives files m lent p out stim panel program memory shown′
 gives-zeroth zero e s = gives-first s
@@ -337,7 +426,7 @@ module _ {files : Files} where
       → (lent out shown′ : List ℕ) (p : Piece)
       → p .length ≡ length (changeLines (signalsIn panel′) m (valueHeld panel′ memory′) (λ x. getD shown x 0))
       → out ≡ sets lent 0 (changeLines (signalsIn panel′) m (valueHeld panel′ memory′) (λ x. getD shown x 0))
-      → Shows (signalsIn panel′) (valueHeld panel′ memory′) shown′
+      → shown′ ≡ shownWith (signalsIn panel′) (valueHeld panel′ memory′) (λ x. getD shown x 0)
       → headOf (p .lister .session) ≡ cycled h → p .lister .cursor .line ≡ next → p .lister .end .0 ≡ l .end .0 → p .lister .pieces ≡ l .pieces + 1
       → Gives files m lent p out stim panel′ program memory′ shown′
   gives-later zero s d more fed stops panel′ e memory′ left lent out shown′ p = absurd (d refl)
@@ -345,7 +434,7 @@ module _ {files : Files} where
       subst (λ (x : List ℕ).
       p .length ≡ length (changeLines (signalsIn x) (suc t) (valueHeld x memory′) (λ y. getD shown y 0))
       → out ≡ sets lent 0 (changeLines (signalsIn x) (suc t) (valueHeld x memory′) (λ y. getD shown y 0))
-      → Shows (signalsIn x) (valueHeld x memory′) shown′
+      → shown′ ≡ shownWith (signalsIn x) (valueHeld x memory′) (λ y. getD shown y 0)
       → headOf (p .lister .session) ≡ cycled h → p .lister .cursor .line ≡ next → p .lister .end .0 ≡ l .end .0 → p .lister .pieces ≡ l .pieces + 1
       → Gives files (suc t) lent p out stim x program memory′ shown′) (sym e)
       (gives-cycle s (omega (arith, s .end)) fed stops memory′ left lent out shown′ p)

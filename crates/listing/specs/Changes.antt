@@ -1,11 +1,11 @@
 -- The lines of the signals whose value is not the one last shown (01, Listing: "each whose value differs from the time before, by time
 -- and signal").
-use Prim.Native.Nat.{ℕ, suc, _≤_}
-use mathlib.Core.Path.{_≡_}
+use Prim.Native.Nat.{ℕ, suc}
 use mathlib.Core.List.{List, [], _∷_}
-use lib.Dec.{eqb}
-use lib.ListN.{length, getD}
+use lib.Dec.{eqb, leb}
+use Rattle.logic.specs.Test.{_and_}
 use Rattle.logic.specs.Choice.{if_then_else_}
+use Rattle.logic.specs.Listed.{listed}
 use Rattle.writing.specs.Text.{lineText}
 use Rattle.model.specs.Listing.{joined}
 use Rattle.memory.specs.Memory.{memoryOf}
@@ -34,7 +34,6 @@ changeLine time s value shown = if eqb value shown then [] else lineText (time �
 unfoldable pub changeLines : ℕ → ℕ → (ℕ → ℕ) → (ℕ → ℕ) → List ℕ
 changeLines n time values shown = joined n (λ k. changeLine time (suc k) (values (suc k)) (shown (suc k)))
 
--- the values of the signals 1 to n are shown
-pub record Shows (n : ℕ) (values : ℕ → ℕ) (shown : List ℕ) : Type 0 where
-  pub size : length shown ≡ shownLength
-  pub values-shown : (s : ℕ) → 1 ≤ s → s ≤ n → getD shown s 0 ≡ values s
+-- the values of the signals 1 to n shown, and all else as it was
+unfoldable pub shownWith : ℕ → (ℕ → ℕ) → (ℕ → ℕ) → List ℕ
+shownWith n values shown = listed shownLength (λ s. if leb 1 s and leb s n then values s else shown s)

@@ -28,9 +28,9 @@ pub record Feeds (n : Network) (stim panel : List ℕ) : Type 0 where
   pub passes : stimCheck n stim ≡ pass
   pub inputs : (s : ℕ) → Signal n s → n .kind s ≡ input → inputIn panel s ≡ true
 
--- the inputs have in hand what the first lines give up to a time
+-- every signal has in hand what the first lines give it up to a time: a gate keeps its time 0 value there
 abbrev pub InHand : Network → List ℕ → ℕ → ℕ → Head → Type 0
-InHand n stim t line h = (s : ℕ) → Signal n s → n .kind s ≡ input → h .hand s ≡ lastGiven stim t s line
+InHand n stim t line h = (s : ℕ) → Signal n s → h .hand s ≡ lastGiven stim t s line
 
 -- a head with the settings of a time from a line on, and the line after them
 pub record Fed (stim panel : List ℕ) (t line : ℕ) (before after : Head) (next : ℕ) : Type 0 where

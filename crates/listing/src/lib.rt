@@ -15,7 +15,7 @@ ghost use Rattle.machine.specs.Running.{cycleIn};
 ghost use Rattle.checks.specs.Answer.{fileRefusal};
 ghost use Rattle.header.specs.Header.{headOf, withHead};
 ghost use Rattle.listing.specs.Refused.{refusedText};
-ghost use Rattle.listing.specs.Changes.{pieceLength, shownLength, valueHeld, changeLine, changeLines, Shows};
+ghost use Rattle.listing.specs.Changes.{pieceLength, shownLength, valueHeld, changeLine, changeLines, shownWith};
 ghost use Rattle.listing.specs.Feeding.{Stimulus, Passed, Fed};
 ghost use Rattle.listing.specs.Cycling.{Ready, InPanel, cycled};
 ghost use Rattle.listing.specs.Standing.{Stands, Standing, Gives};
@@ -87,7 +87,7 @@ fn write_changes(time: u16, panel: &[u8], memory: &[u8], shown: &mut [u8], out: 
     requires { ⌜ (length (now shown) ≡ shownLength) × (length (now out) ≡ pieceLength) ⌝ }
     ensures { λ r. ⌜ r ≡ length (changeLines (signalsIn (now (panel .entry))) time (valueHeld (now (panel .entry)) (now (memory .entry))) (λ s. getD (now (shown .entry)) s 0)) ⌝ }
     ensures { λ _. ⌜ now (out .exit) ≡ sets (now (out .entry)) 0 (changeLines (signalsIn (now (panel .entry))) time (valueHeld (now (panel .entry)) (now (memory .entry))) (λ s. getD (now (shown .entry)) s 0)) ⌝ }
-    ensures { λ _. ⌜ Shows (signalsIn (now (panel .entry))) (valueHeld (now (panel .entry)) (now (memory .entry))) (now (shown .exit)) ⌝ }
+    ensures { λ _. ⌜ now (shown .exit) ≡ shownWith (signalsIn (now (panel .entry))) (valueHeld (now (panel .entry)) (now (memory .entry))) (λ s. getD (now (shown .entry)) s 0) ⌝ }
 {
     let signals = tables::word_at(panel, 0);
     let mut at: usize = 0;

@@ -23,10 +23,14 @@ decode-requires : tie.Need-decode-requires
 decode-requires c κs = search needs
 
 first-later-requires : tie.Need-first-later-requires
-first-later-requires c κs = accepted-stimulus _ (c .before .before .before .before .before .before .before .before .before .before .before .before .before .before .before .before .before .before .before .before .before .before .before .pre .0)
+first-later-requires c κs =
+    let s = c .before .before .before .before .before .before .before .before .before .before .before .before .before .before .before .before .before .before .before .before .before .before .before in
+    accepted-stimulus _ (s .pre .0)
 
 end-time-requires : tie.Need-end-time-requires
-end-time-requires c κs = (accepted-stimulus _ (c .before .before .before .before .before .before .before .before .before .before .before .before .before .before .before .before .before .before .before .before .before .before .before .before .pre .0), c .before .before .before .before .before .before .before .before .before .before .before .before .before .before .before .before .before .before .before .before .before .before .before .before .pre .1 .0)
+end-time-requires c κs =
+    let s = c .before .before .before .before .before .before .before .before .before .before .before .before .before .before .before .before .before .before .before .before .before .before .before .before in
+    (accepted-stimulus _ (s .pre .0), s .pre .1 .0)
 
 same-length : tie.Need-same-length
 same-length c = search needs
@@ -44,7 +48,8 @@ returns : tie.Need-returns
 returns c =
     let s = c .before .before .before .before .before .before .before .before .before .before .before .before .before .before .before .before .before .before .before .before .before .before .before .before .before in
     let load = c .before .before .before .before .before .before .before .before .before .before .before .before .before .before .load .ensures in
-    opened _ (s .pre .0) _ _ _ _ _ (load .0) (load .1 .0) (load .1 .1) (c .before .before .decode .ensures .0) (c .before .before .decode .ensures .1) (c .before .first-later .ensures) (c .end-time .ensures) refl (c .before .before .before .before .before .before .fill .ensures ∙ ap (λ (n : ℕ). listed n (λ a. notShown)) (s .pre .1 .1 .3))
+    let fill = c .before .before .before .before .before .before .fill .ensures in
+    opened _ (s .pre .0) _ _ _ _ _ (load .0) (load .1 .0) (load .1 .1) (c .before .before .decode .ensures .0) (c .before .first-later .ensures) (c .end-time .ensures) refl (fill ∙ ap (λ (n : ℕ). listed n (λ a. notShown)) (s .pre .1 .1 .3))
 
 pub open-spec : {M : Type 1} → statement M
 open-spec =

@@ -26,7 +26,9 @@ same-length : tie.Need-same-length
 same-length c = search needs
 
 returns : tie.Need-returns
-returns c = λ files k s. gives-last s (c .before .before .before .before .before .if1 .taken) _ _ _ _ _ _ (c .before .before .write-line .ensures .0 ∙ sym (length-line _)) (c .before .before .write-line .ensures .1) refl
+returns c = λ files k s.
+    let w = c .before .before .write-line .ensures in
+    gives-last s (c .before .before .before .before .before .if1 .taken) _ _ _ (w .0 ∙ sym (length-line _)) (w .1) refl
 
 cast-time : tie.Need-cast-time
 cast-time c = search needs
@@ -50,7 +52,10 @@ same-length-5 : tie.Need-same-length-5
 same-length-5 c = search needs
 
 returns-2 : tie.Need-returns-2
-returns-2 c = λ files k s. by-count s (gives-zeroth _ (c .before .before .before .before .before .before .before .before .before .if2 .taken) (at-count s) _ _ _ _ (c .before .before .before .before .write-changes .ensures .0) (c .before .before .before .before .write-changes .ensures .1 .0) (c .before .before .before .before .write-changes .ensures .1 .1) refl)
+returns-2 c = λ files k s.
+    let first = c .before .before .before .before .before .before .before .before .before .if2 .taken in
+    let w = c .before .before .before .before .write-changes .ensures in
+    by-count s (gives-zeroth _ first (at-count s) _ _ _ _ (w .0) (w .1 .0) (w .1 .1) refl)
 
 take-settings-requires : tie.Need-take-settings-requires
 take-settings-requires c κs =
@@ -61,16 +66,20 @@ take-settings-requires c κs =
 run-one-requires : tie.Need-run-one-requires
 run-one-requires c κs =
     let st = c .before .before .before .before .before .before .before .before .before .before .before .before .before .before .before .before .before .before .before .pre .0 .stands in
+    let later = c .before .before .before .before .before .before .before .before .if2 .left in
+    let more = c .before .before .before .before .before .before .before .before .before .if1 .left in
     let fed = c .before .before .before .before .before .before .take-settings .ensures in
-    (later-ready _ (at-count st) (c .before .before .before .before .before .before .before .before .if2 .left) (c .before .before .before .before .before .before .before .before .before .if1 .left) (fed .0) (fed .1), λ e. later-unfed _ (at-count st) (c .before .before .before .before .before .before .before .before .if2 .left) (c .before .before .before .before .before .before .before .before .before .if1 .left) (fed .0) (fed .1) (eqb-true _ _ (not-false _ e)))
+    (later-ready _ (at-count st) later more (fed .0) (fed .1), λ e. later-unfed _ (at-count st) later more (fed .0) (fed .1) (eqb-true _ _ (not-false _ e)))
 
 write-changes-requires-2 : tie.Need-write-changes-requires-2
 write-changes-requires-2 c κs =
     let s = c .before .before .before .before .before .before .before .before .before .before .before .before .before .before .before .before .before .before .before .before .before .before .before .before .before .before .before .before in
     let st = s .pre .0 .stands in
+    let later = c .before .before .before .before .before .before .before .before .before .before .before .before .before .before .before .before .before .if2 .left in
+    let more = c .before .before .before .before .before .before .before .before .before .before .before .before .before .before .before .before .before .before .if1 .left in
     let fed = c .before .before .before .before .before .before .before .before .before .before .before .before .before .before .before .take-settings .ensures in
     let ran = c .before .before .before .before .before .before .before .before .run-one .ensures in
-    let right = later-right _ (at-count st) (c .before .before .before .before .before .before .before .before .before .before .before .before .before .before .before .before .before .if2 .left) (c .before .before .before .before .before .before .before .before .before .before .before .before .before .before .before .before .before .before .if1 .left) (fed .0) (fed .1) _ (ran .1 .1) in
+    let right = later-right _ (at-count st) later more (fed .0) (fed .1) _ (ran .1 .1) in
     rw (ran .1 .0) ((right .sizes .panel-size, right-signals right), (right-processor right, (right-memory right, (st .shown-size, s .pre .1))))
 
 add-t22 : tie.Need-add-t22
@@ -91,7 +100,14 @@ same-length-9 : tie.Need-same-length-9
 same-length-9 c = search needs
 
 returns-3 : tie.Need-returns-3
-returns-3 c = λ files k s. let fed = c .before .before .before .before .before .before .before .before .before .before .before .before .before .before .before .before .before .before .before .before .take-settings .ensures in let ran = c .before .before .before .before .before .before .before .before .before .before .before .before .before .run-one .ensures in let w = c .before .before .before .before .write-changes2 .ensures in by-count s (gives-later _ (at-count s) (c .before .before .before .before .before .before .before .before .before .before .before .before .before .before .before .before .before .before .before .before .before .before .if2 .left) (c .before .before .before .before .before .before .before .before .before .before .before .before .before .before .before .before .before .before .before .before .before .before .before .if1 .left) (fed .0) (fed .1) _ (ran .1 .0) _ (ran .1 .1) _ _ _ _ (w .0) (w .1 .0) (w .1 .1) (ran .0) refl refl refl)
+returns-3 c = λ files k s.
+    let later = c .before .before .before .before .before .before .before .before .before .before .before .before .before .before .before .before .before .before .before .before .before .before .if2 .left in
+    let more = c .before .before .before .before .before .before .before .before .before .before .before .before .before .before .before .before .before .before .before .before .before .before .before .if1 .left in
+    let fed = c .before .before .before .before .before .before .before .before .before .before .before .before .before .before .before .before .before .before .before .before .take-settings .ensures in
+    let ran = c .before .before .before .before .before .before .before .before .before .before .before .before .before .run-one .ensures in
+    let w = c .before .before .before .before .write-changes2 .ensures in
+    by-count s
+    (gives-later _ (at-count s) later more (fed .0) (fed .1) _ (ran .1 .0) _ (ran .1 .1) _ _ _ _ (w .0) (w .1 .0) (w .1 .1) (ran .0) refl refl refl)
 
 pub step-spec : {M : Type 1} → statement M
 step-spec =

@@ -1,0 +1,224 @@
+-- What the files say of the buffers after t cycles: the panel holds the network and the module, the values in hand are STIM's and the
+-- places hold VAL; and one cycle more makes of them what the files say of t + 1.
+use Prim.Native.Nat.{ℕ, zero, suc, _+_, _*_, _/_, _%_, _<_, _≤_}
+use mathlib.Core.Path.{_≡_, refl, sym, _∙_, ap}
+use mathlib.Core.Bool.{Bool, true, false}
+use mathlib.Core.List.{List}
+use native.Mathlib.Omega.{arith}
+use native.Mathlib.Decide.{decLt}
+use lib.Dec.{eqb}
+use lib.ListN.{getD}
+use borrow.Author.Tests.{lt-ltb, le-ltb, eqb-false}
+use Rattle.logic.specs.Choice.{if_then_else_}
+use Rattle.logic.specs.Listed.{listed}
+use Rattle.logic.proofs.Listed.{listed-length, listed-at, is-listed}
+use Rattle.model.specs.Files.{Files}
+use Rattle.model.specs.Network.{Network, Signal, isSignal}
+use Rattle.model.specs.Value.{start, history}
+use Rattle.model.specs.Module.{Module}
+use Rattle.model.specs.Machine.{Memory, cycle, opening, after}
+use Rattle.model.specs.Schedule.{moduleOf}
+use Rattle.model.specs.Stimulus.{held, endTime}
+use Rattle.model.specs.Acceptance.{panelLimit, networkOf, scheduleOf, givenOf, Accepted}
+use Rattle.model.specs.Session.{Head, Watch}
+use Rattle.model.specs.Listing.{valueAt}
+use Rattle.model.proofs.Chains.{signal-true, signal-test}
+use Rattle.model.proofs.Machine.{Near, near-refl, cycle-rows, cycle-near}
+use Rattle.model.proofs.Keeping.{machine-holds-VAL}
+use Rattle.model.proofs.Accepted.{net-accepted, mod-accepted}
+use Rattle.model.proofs.Demands.{accepted-formed, accepted-acyclic, accepted-scheduled}
+use Rattle.memory.specs.Memory.{memoryLength, memoryOf, within}
+use Rattle.memory.specs.Memory.{held as heldIn}
+use Rattle.memory.proofs.Written.{written-same}
+use Rattle.memory.proofs.Near.{agree-near, held-near, held-step}
+use Rattle.tables.specs.Panel.{panelLength, signalsIn, handIn}
+use Rattle.tables.specs.Tables.{networkIn}
+use Rattle.tables.specs.Holding.{Holding}
+use Rattle.machine.specs.Running.{cycleIn}
+use Rattle.loading.specs.Loaded.{panelOf, programOf}
+use Rattle.loading.proofs.Loaded.{loaded-tables, loaded-holding, loaded-network, loaded-head}
+use Rattle.engine.proofs.Same.{cycle-same, near-trans}
+use Rattle.engine.proofs.Valued.{processors-few, slots-few}
+use Rattle.header.specs.Header.{headBytes, headByte, withHead}
+use Rattle.kept.proofs.Heads.{session-byte, with-head-hand, with-head-column}
+use Rattle.kept.proofs.Holding.{signal-high, with-head-holding}
+use Rattle.listing.specs.Changes.{shownLength, notShown, valueHeld, shownWith}
+use Rattle.listing.specs.Buffers.{cyclesAfter, handAt, panelAt, memoryAt, shownAt, shownAfter}
+
+-- a head written over another
+module _ (h g : Head) (panel : List ℕ) where
+  byte-over : (s column : ℕ) → s ≤ 4096 → column < 10 → headByte h (withHead g panel) s column ≡ headByte h panel s column
+  unfolding headByte
+  byte-over zero column high l = ap (λ (bytes : List ℕ). getD bytes column 0) first
+    where
+      first : headBytes h (withHead g panel) ≡ headBytes h panel
+      first =
+          cc (
+            session-byte g panel 0 (omega arith),
+            session-byte g panel 1 (omega arith),
+            session-byte g panel 2 (omega arith),
+            session-byte g panel 3 (omega arith),
+            session-byte g panel 4 (omega arith),
+          )
+  byte-over (suc s) column high l = go (eqb column 7) refl
+    where
+      go : (b : Bool) → eqb column 7 ≡ b
+          → (if b then h .hand (suc s) else getD (withHead g panel) (10 * suc s + column) 0) ≡ (if b then h .hand (suc s) else getD panel (10 * suc s + column) 0)
+      go true e = refl
+      go false e = with-head-column g panel (suc s) (omega arith) high column l (eqb-false column 7 e)
+
+  with-head-over : withHead h (withHead g panel) ≡ withHead h panel
+  unfolding withHead
+  with-head-over =
+      is-listed (withHead h (withHead g panel)) panelLength _ (listed-length panelLength _)
+      (λ a l. listed-at panelLength _ a l ∙ byte-over (a / 10) (a % 10) (omega arith) (omega arith))
+
+-- heads that write the same bytes
+module _ (h g : Head) (panel : List ℕ) (finished : h .finished ≡ g .finished) (watch : h .watch ≡ g .watch)
+    (hands : (s : ℕ) → 1 ≤ s → s ≤ 4096 → h .hand s ≡ g .hand s) where
+  byte-same : (s column : ℕ) → s ≤ 4096 → headByte h panel s column ≡ headByte g panel s column
+  unfolding headByte
+  byte-same zero column high =
+      let numbers : headBytes h panel ≡ headBytes g panel = cc (finished, ap (λ (w : Watch). w .signal) watch, ap (λ (w : Watch). w .mask) watch) in
+      ap (λ (bytes : List ℕ). getD bytes column 0) numbers
+  byte-same (suc s) column high = rw (hands (suc s) (omega arith) high)
+
+  with-head-same : withHead h panel ≡ withHead g panel
+  unfolding withHead
+  with-head-same =
+      is-listed (withHead h panel) panelLength _ (listed-length panelLength _)
+      (λ a l. listed-at panelLength _ a l ∙ byte-same (a / 10) (a % 10) (omega arith))
+
+module _ (files : Files) where
+  abbrev n : Network
+  n = networkOf files
+
+  abbrev m : Module
+  m = scheduleOf files
+
+  abbrev stim : List ℕ
+  stim = files .STIM
+
+  -- the cycles finished after piece t, and after the last piece
+  pub cycles-at : (t : ℕ) → t ≤ endTime stim → cyclesAfter files (suc t) ≡ t
+  unfolding cyclesAfter
+  cycles-at t h = go (decLt t (endTime stim))
+    where
+      go : Dec (t < endTime stim) → cyclesAfter files (suc t) ≡ t
+      go (yes l) = rw (lt-ltb t (endTime stim) l)
+      go (no d) = rw (le-ltb t (endTime stim) (omega arith)) (omega arith)
+
+  pub cycles-last : cyclesAfter files (suc (suc (endTime stim))) ≡ cyclesAfter files (suc (endTime stim))
+  unfolding cyclesAfter
+  cycles-last = rw (le-ltb (suc (endTime stim)) (endTime stim) (omega arith), le-ltb (endTime stim) (endTime stim) (omega arith))
+
+  -- what is shown of a signal
+  pub shown-signal : (t : ℕ) → t ≤ endTime stim → (s : ℕ) → Signal n s → shownAt files (suc t) s ≡ valueAt files t s
+  unfolding shownAt
+  shown-signal t h s g = rw (signal-test n s g, cycles-at t h)
+
+  shown-other : (k s : ℕ) → isSignal n s ≡ false → shownAt files k s ≡ notShown
+  unfolding shownAt
+  shown-other zero s e = refl
+  shown-other (suc t) s e = rw e
+
+  pub shown-last : shownAfter files (suc (suc (endTime stim))) ≡ shownAfter files (suc (endTime stim))
+  unfolding shownAt
+  shown-last = ap (λ (t : ℕ). listed shownLength (λ s. if isSignal n s then valueAt files t s else notShown)) cycles-last
+
+  -- a value in hand of a signal, and of none
+  pub hand-signal : (t s : ℕ) → Signal n s → handAt files t s ≡ held stim t s
+  unfolding handAt
+  hand-signal t s g = rw (signal-test n s g)
+
+  pub hand-none : (t s : ℕ) → n .size < s → handAt files t s ≡ 0
+  unfolding handAt
+  hand-none t s h = go (isSignal n s) refl
+    where
+      go : (b : Bool) → isSignal n s ≡ b → handAt files t s ≡ 0
+      go true e = absurd (omega (arith, signal-true n s e .high))
+      go false e = rw e
+
+  -- one head more written into the panel
+  pub panel-next : (t : ℕ) (h : Head) → h .finished ≡ t → h .watch ≡ record { signal = 1; mask = 0 }
+      → ((s : ℕ) → 1 ≤ s → s ≤ 4096 → h .hand s ≡ handAt files (suc t) s) → withHead h (panelAt files t) ≡ panelAt files (suc t)
+  unfolding panelAt
+  panel-next zero h finished watch hands = with-head-same h _ _ finished watch hands
+  panel-next (suc t) h finished watch hands = with-head-over h _ _ ∙ with-head-same h _ _ finished watch hands
+
+  module _ (accepted : Accepted panelLimit files) where
+    abbrev loaded : List ℕ
+    loaded = panelOf (files .NET) (files .MOD) stim
+
+    abbrev program : List ℕ
+    program = programOf (files .MOD)
+
+    few : signalsIn loaded ≤ 4096
+    few = loaded-tables (files .NET) (files .MOD) (net-accepted panelLimit files accepted) (mod-accepted panelLimit files accepted) stim .signals-high
+
+    -- the panel holds the files' network and module
+    loaded-here : Holding n m loaded program
+    loaded-here = loaded-holding (files .NET) (files .MOD) (net-accepted panelLimit files accepted) (mod-accepted panelLimit files accepted) stim
+
+    pub panel-holding : (t : ℕ) → Holding n m (panelAt files t) program
+    unfolding panelAt
+    panel-holding zero = loaded-here
+    panel-holding (suc t) = with-head-holding _ loaded program few loaded-here
+
+    -- and STIM's values in hand
+    pub panel-hand : (t s : ℕ) → Signal n s → handIn (panelAt files t) s ≡ held stim t s
+    unfolding panelAt start
+    panel-hand zero s g =
+        loaded-network (files .NET) (files .MOD) (net-accepted panelLimit files accepted) (mod-accepted panelLimit files accepted) stim .hands s g
+    panel-hand (suc t) s g =
+        with-head-hand _ loaded s (g .low) (signal-high loaded program n s few (loaded-here .signals) g) ∙ hand-signal (suc t) s g
+
+    -- index 0, which is no signal, reads the watch: signal 1
+    pub panel-none : (t : ℕ) → handIn (panelAt files t) 0 ≡ 1
+    unfolding panelAt
+    panel-none zero =
+        let head = loaded-head (files .NET) (files .MOD) (net-accepted panelLimit files accepted) (mod-accepted panelLimit files accepted) stim in
+        omega (arith, head .1)
+    panel-none (suc t) = session-byte _ loaded 7 (omega arith)
+
+    -- the places hold VAL
+    pub places-hold : (panel program : List ℕ) → Holding n m panel program → (t s : ℕ) → Signal n s → valueHeld panel (memoryAt files t) s ≡ valueAt files t s
+    unfolding memoryAt moduleOf valueAt
+    places-hold panel program holding t s g =
+        let there = holding .places s g in
+        let w = after n m (opening m (start n (givenOf files))) (history (held stim) t) in
+        held-near m (processors-few files accepted) (slots-few files accepted) w (listed memoryLength (λ a. 0)) .earlierLocal _ _ (there .at)
+        ∙ machine-holds-VAL (accepted-formed panelLimit files accepted) (accepted-acyclic panelLimit files accepted) (accepted-scheduled panelLimit files accepted)
+        (givenOf files) (history (held stim) t) s _ _ g (there .at) (there .is)
+
+    -- a cycle of the tables is one of the files' machine
+    cycle-is : (t : ℕ) (w : Memory) → Near m (cycleIn (panelAt files t) program w) (cycle n m (held stim t) w)
+    cycle-is t w =
+        let laid = accepted-scheduled panelLimit files accepted .laid in
+        let holding = panel-holding t in
+        near-trans
+        (cycle-same (networkIn (panelAt files t) program) (holding .lines) laid (holding .signals .kinds) (holding .signals .gates) (handIn (panelAt files t)) near-refl)
+        (cycle-rows laid (handIn (panelAt files t)) (held stim t) (λ s g i. panel-hand t s g) near-refl)
+
+    pub memory-next : (t : ℕ) (memory left : List ℕ) → memory ≡ memoryAt files t
+        → left ≡ heldIn (m .processors) (m .slots) (cycleIn (panelAt files (suc t)) program (memoryOf memory)) memory
+        → left ≡ memoryAt files (suc t)
+    unfolding memoryAt moduleOf after history
+    memory-next t memory left is e =
+        let laid = accepted-scheduled panelLimit files accepted .laid in
+        held-step m (processors-few files accepted) (slots-few files accepted) (cycle n m (held stim (suc t))) (λ w u. cycle-near laid (held stim (suc t)))
+        (after n m (opening m (start n (givenOf files))) (history (held stim) t)) (listed memoryLength (λ a. 0)) memory left is
+        (e ∙ written-same (within (m .processors) (m .slots)) _ _ memory (agree-near m _ _ (cycle-is (suc t) (memoryOf memory))))
+
+    -- what the changes of time t leave shown
+    pub shown-next : (t : ℕ) → t ≤ endTime stim → (values : ℕ → ℕ) → ((s : ℕ) → Signal n s → values s ≡ valueAt files t s)
+        → shownWith (n .size) values (λ s. getD (shownAfter files t) s 0) ≡ shownAfter files (suc t)
+    unfolding shownWith isSignal
+    shown-next t h values are =
+        is-listed (shownWith (n .size) values (λ s. getD (shownAfter files t) s 0)) shownLength (shownAt files (suc t)) (listed-length shownLength _)
+        (λ s l. listed-at shownLength _ s l ∙ byte s l (isSignal n s) refl)
+      where
+        byte : (s : ℕ) → s < shownLength → (b : Bool) → isSignal n s ≡ b
+            → (if isSignal n s then values s else getD (shownAfter files t) s 0) ≡ shownAt files (suc t) s
+        byte s l true e = let g = signal-true n s e in rw e (are s g ∙ sym (shown-signal t h s g))
+        byte s l false e = rw e (listed-at shownLength (shownAt files t) s l ∙ shown-other t s e ∙ sym (shown-other (suc t) s e))

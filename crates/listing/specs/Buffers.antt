@@ -1,0 +1,81 @@
+-- Every byte of the working buffers, and the session, after the first k pieces of the listing of accepted files: functions of the files
+-- and of k alone. The program's table stays as it was loaded (`programOf`).
+use Prim.Native.Nat.{ℕ, zero, suc}
+use mathlib.Core.List.{List}
+use lib.Dec.{leb, ltb}
+use Rattle.logic.specs.Choice.{if_then_else_}
+use Rattle.logic.specs.Listed.{listed}
+use Rattle.model.specs.Files.{Files}
+use Rattle.model.specs.Network.{isSignal}
+use Rattle.model.specs.Value.{start, history}
+use Rattle.model.specs.Machine.{opening, after}
+use Rattle.model.specs.Schedule.{modProcessors, modSlots}
+use Rattle.model.specs.Stimulus.{stimTime, stimCount, held, endTime}
+use Rattle.model.specs.Acceptance.{networkOf, scheduleOf, givenOf}
+use Rattle.model.specs.Session.{Head}
+use Rattle.model.specs.Listing.{valueAt}
+use Rattle.memory.specs.Memory.{memoryLength}
+use Rattle.memory.specs.Memory.{held as heldIn}
+use Rattle.tables.specs.Panel.{handIn}
+use Rattle.loading.specs.Loaded.{panelOf}
+use Rattle.header.specs.Header.{withHead}
+use Rattle.listing.specs.Changes.{shownLength, notShown}
+
+-- the cycles finished: piece 0 is time 0, and after T cycles the last line asks for none
+unfoldable pub cyclesAfter : Files → ℕ → ℕ
+cyclesAfter files zero = zero
+cyclesAfter files (suc t) = if ltb t (endTime (files .STIM)) then t else endTime (files .STIM)
+
+-- how many of the first k lines of STIM have a time up to t
+unfoldable pub linesTo : List ℕ → ℕ → ℕ → ℕ
+linesTo stim t zero = zero
+linesTo stim t (suc k) = if leb (stimTime stim k) t then suc (linesTo stim t k) else linesTo stim t k
+
+-- times rise, so that after those lines comes the one that is read next
+abbrev pub lineAt : Files → ℕ → ℕ
+lineAt files t = linesTo (files .STIM) t (stimCount (files .STIM))
+
+abbrev pub lineAfter : Files → ℕ → ℕ
+lineAfter files k = lineAt files (cyclesAfter files k)
+
+-- the value in hand of signal s for cycle t, and 0 for what is no signal
+unfoldable pub handAt : Files → ℕ → ℕ → ℕ
+handAt files t s = if isSignal (networkOf files) s then held (files .STIM) t s else 0
+
+-- The panel after t cycles. The session is written into it before each cycle: it has the values in hand of the last cycle, and as
+-- finished the cycles before that one.
+unfoldable pub panelAt : Files → ℕ → List ℕ
+panelAt files zero = panelOf (files .NET) (files .MOD) (files .STIM)
+panelAt files (suc t) =
+    withHead (record { finished = t; hand = handAt files (suc t); watch = record { signal = 1; mask = 0 } })
+    (panelOf (files .NET) (files .MOD) (files .STIM))
+
+abbrev pub panelAfter : Files → ℕ → List ℕ
+panelAfter files k = panelAt files (cyclesAfter files k)
+
+-- The memory after t cycles: the machine's own in the module's locations, from the opening memory on, and all other bytes 0
+unfoldable pub memoryAt : Files → ℕ → List ℕ
+memoryAt files t =
+    let n = networkOf files in
+    let m = scheduleOf files in
+    heldIn (modProcessors (files .MOD)) (modSlots (files .MOD))
+    (after n m (opening m (start n (givenOf files))) (history (held (files .STIM)) t))
+    (listed memoryLength (λ a. 0))
+
+abbrev pub memoryAfter : Files → ℕ → List ℕ
+memoryAfter files k = memoryAt files (cyclesAfter files k)
+
+-- what is shown of s: the value that the pieces told last, none before time 0 and of what is no signal
+unfoldable pub shownAt : Files → ℕ → ℕ → ℕ
+shownAt files zero s = notShown
+shownAt files (suc t) s = if isSignal (networkOf files) s then valueAt files (cyclesAfter files (suc t)) s else notShown
+
+abbrev pub shownAfter : Files → ℕ → List ℕ
+shownAfter files k = listed shownLength (shownAt files k)
+
+-- the session after t cycles: the values in hand as the panel has them, "watch signal 1, mask 0"
+abbrev pub headAt : Files → ℕ → Head
+headAt files t = record { finished = t; hand = handIn (panelAt files t); watch = record { signal = 1; mask = 0 } }
+
+abbrev pub headAfter : Files → ℕ → Head
+headAfter files k = headAt files (cyclesAfter files k)
