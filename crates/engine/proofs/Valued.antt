@@ -4,27 +4,25 @@
 use Prim.Native.Nat.{ℕ, zero, suc, _≤_}
 use mathlib.Core.Path.{_≡_, refl, sym, subst}
 use mathlib.Core.List.{List, [], _∷_}
-use lib.ListN.{getD}
 use Rattle.logic.specs.Listed.{listed}
 use Rattle.model.specs.Files.{Files}
-use Rattle.model.specs.Network.{Network, Signal}
-use Rattle.model.specs.Value.{start, VAL}
+use Rattle.model.specs.Network.{Network}
+use Rattle.model.specs.Value.{start}
 use Rattle.model.specs.Module.{Module}
 use Rattle.model.specs.Machine.{Memory, cycle, opening}
 use Rattle.model.specs.Schedule.{moduleOf}
 use Rattle.model.specs.Session.{runs, ticks, watched}
 use Rattle.model.specs.Acceptance.{panelLimit, networkOf, scheduleOf, givenOf, Accepted}
-use Rattle.model.specs.Demands.{Places}
 use Rattle.model.proofs.Conditions.{Formed, Acyclic, Scheduled}
 use Rattle.model.proofs.Value.{SameInputs}
 use Rattle.model.proofs.Machine.{Near, near-refl}
-use Rattle.model.proofs.Keeping.{Kept, kept-cycle, kept-places, kept-near, kept-opening}
+use Rattle.model.proofs.Keeping.{Kept, kept-cycle, kept-near, kept-opening}
 use Rattle.model.proofs.Runs.{runs-exact}
 use Rattle.model.proofs.Accepted.{mod-accepted, mod-processors, mod-slots}
 use Rattle.model.proofs.Demands.{accepted-formed, accepted-acyclic, accepted-scheduled}
-use Rattle.memory.specs.Memory.{memoryLength, place, memoryOf, held}
+use Rattle.memory.specs.Memory.{memoryLength, memoryOf, held}
 use Rattle.memory.proofs.Near.{held-near}
-use Rattle.tables.specs.Panel.{processorsIn, slotsIn, maskIn, handIn, processorIn, slotIn}
+use Rattle.tables.specs.Panel.{processorsIn, slotsIn, maskIn, handIn}
 use Rattle.tables.specs.Tables.{networkIn, moduleIn}
 use Rattle.tables.specs.Holding.{Holding}
 use Rattle.machine.specs.Running.{cycleIn, watchedValue, runIn}
@@ -97,11 +95,6 @@ module _ (files : Files) (accepted : Accepted panelLimit files) where
         subst (λ (l : List ℕ). Holds l (row ∷ rows)) (sym e)
         (written-kept (cycleIn panel program (memoryOf bytes)) bytes (row ∷ rows) (cycle-kept row same (memoryOf bytes) rows k))
 
-    -- inside a run: the memory after its j-th cycle
-    pub inside-holds : (bytes : List ℕ) (rows : List (ℕ → ℕ)) (j : ℕ) → Holds bytes rows
-        → Places n m (ticks (cycleIn panel program) j (memoryOf bytes)) (VAL n (givenOf files) (ticks (λ r. handIn panel ∷ r) j rows))
-    inside-holds bytes rows j k = kept-places formed acyclic ok (givenOf files) _ _ (ticks-kept j (memoryOf bytes) rows k)
-
     -- a run, as its contract leaves the bytes
     pub run-holds : (bytes left : List ℕ) (rows : List (ℕ → ℕ)) (k : ℕ) → Holds bytes rows
         → left ≡ held (processorsIn panel) (slotsIn panel) (runIn panel program k (memoryOf bytes) .state) bytes
@@ -114,14 +107,6 @@ module _ (files : Files) (accepted : Accepted panelLimit files) where
         (written-kept (ran .state) bytes (ticks (λ r. handIn panel ∷ r) (ran .count) rows)
         (subst (λ (w : Memory). Kept formed acyclic ok (givenOf files) w (ticks (λ r. handIn panel ∷ r) (ran .count) rows)) (sym (exact .state))
         (ticks-kept (ran .count) (memoryOf bytes) rows holds)))
-
-    -- the byte at a signal's place is its value
-    pub place-holds : (bytes : List ℕ) (rows : List (ℕ → ℕ)) → Holds bytes rows → (s : ℕ) → Signal n s
-        → getD bytes (place (processorIn panel s) 0 (slotIn panel s)) 0 ≡ VAL n (givenOf files) rows s
-    unfolding memoryOf
-    place-holds bytes rows k s g =
-        let there = holding .places s g in
-        kept-places formed acyclic ok (givenOf files) (memoryOf bytes) rows k s (processorIn panel s) (slotIn panel s) g (there .at) (there .is)
 
   -- before cycle 1, as `load` leaves the bytes
   pub opening-holds : Holds (openingBytes (files .NET) (files .MOD) (files .STIM)) []

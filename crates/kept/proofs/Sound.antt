@@ -1,22 +1,20 @@
 -- Heads that a panel takes in and gives back: written into it, a head in range leaves all in range, and is the head that it then holds.
 use Prim.Native.Nat.{ℕ, zero, suc, _+_, _*_, _%_, _<_, _≤_}
-use mathlib.Core.Path.{_≡_, refl, sym, _∙_, ap}
+use mathlib.Core.Path.{_≡_, refl, sym, _∙_}
 use mathlib.Core.Bool.{Bool, true, false}
 use mathlib.Core.List.{List}
 use native.Mathlib.Omega.{arith}
 use lib.Dec.{leb}
-use lib.ListN.{length, getD}
 use borrow.Author.Tests.{leb-true, leb-false}
 use Rattle.model.specs.Session.{Head}
-use Rattle.tables.specs.Panel.{panelLength, signalsIn, handIn}
+use Rattle.tables.specs.Panel.{signalsIn, handIn}
 use Rattle.ranges.specs.Ranges.{ranged}
-use Rattle.ranges.proofs.Numbers.{Panel}
 use Rattle.ranges.proofs.Ranged.{Values, is-ranged, panel-in-range, program-in-range, memory-in-range}
 use Rattle.header.specs.Header.{headIn, withHead}
 use Rattle.header.specs.Commands.{withValue}
 use Rattle.header.proofs.Heads.{same-head, past-end}
 use Rattle.kept.proofs.Heads.{session-byte, with-head-length, with-head-hand, with-head-processors, with-head-slots, with-head-finished, with-head-watched, with-head-mask}
-use Rattle.kept.proofs.Panels.{InRange, head-in-range, replaced-else, with-value-in-range, with-head-panel, with-head-program}
+use Rattle.kept.proofs.Panels.{InRange, replaced-else, with-value-in-range, with-head-panel, with-head-program}
 
 -- A head in range that is a panel's own: what it holds for index 0, which is no signal, is the byte that stands there, and it holds
 -- nothing above 4096.
@@ -24,15 +22,6 @@ pub record Sound (panel : List ℕ) (h : Head) : Type 0 where
   pub range : InRange panel h
   pub zeroth : h .hand 0 ≡ h .watch .signal % 256
   pub beyond : (s : ℕ) → 4096 < s → h .hand s ≡ 0
-
--- the head of a panel in range that its own head leaves as it is
-pub head-sound : (panel : List ℕ) → length panel ≡ panelLength → withHead (headIn panel) panel ≡ panel → Panel panel → Sound panel (headIn panel)
-head-sound panel size own r =
-    record {
-      range = head-in-range panel r;
-      zeroth = ap (λ (l : List ℕ). getD l 7 0) (sym own) ∙ session-byte (headIn panel) panel 7 (omega arith);
-      beyond = λ s l. past-end panel (10 * s + 7) (omega arith);
-    }
 
 -- an input's value in hand replaced
 pub with-value-sound : (panel : List ℕ) (h : Head) → signalsIn panel ≤ 4096 → Sound panel h → (s v : ℕ) → 1 ≤ s → s ≤ signalsIn panel → v ≤ 3
