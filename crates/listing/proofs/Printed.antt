@@ -1,5 +1,6 @@
--- What the program prints is `printed` of the whole files: the pieces in order are the listing, a refusal is the first one, and bytes past
--- those that it reads change nothing. So demand 2 holds of the program's functions.
+-- Every text that `Prints` allows, on the bytes read, is `printed` of the whole files: the pieces in order are the listing, a refusal is the
+-- first one, and bytes past those that are read change nothing. So demand 2 holds of every such text. That there is one is `Inhabited`, and
+-- that the program hands these bytes to its writer is a contract of crates/cavundir.
 use Prim.Native.Nat.{ℕ, zero, suc, _+_, _*_, _<_, _≤_}
 use mathlib.Core.Path.{_≡_, refl, sym, subst, _∙_, ap}
 use mathlib.Core.List.{List, [], _∷_, _++_, append-assoc, append-nil}
@@ -218,7 +219,7 @@ module _ (files : Files) where
       go pass e = ap (printed panelLimit) (read-whole e)
       go (fail number returned) e = rw (e, sym read-check ∙ e)
 
-  -- The theorem from end to end: whatever the program prints on the bytes that it reads is `printed` of the whole files
+  -- A text by the contracts of the functions, in the order in which the program calls them, is `printed` of the whole files
   pub program-prints : (text : List ℕ) → Prints read text → text ≡ printed panelLimit files
   program-prints text (net-refused a e d) = refused-is a (netCheck panelLimit (read .NET)) files e d (net-check d)
   program-prints text (mod-refused net a e d) = refused-is a (modCheck (networkOf read) (read .MOD)) files e d (mod-check net d)
@@ -236,7 +237,7 @@ module _ (files : Files) where
 pub pieces-few : (files : Files) → Accepted panelLimit files → pieceCount files ≤ 65537
 pieces-few files accepted = omega (arith, end-small (networkOf files) (files .STIM) (stim-accepted panelLimit files accepted))
 
--- Demand 2 of the program: of any text that it prints for the files
+-- Demand 2 of whatever is printed by these contracts
 pub program-demand-2 : (prints : Files → List ℕ) → ((files : Files) → Prints (firstBytes files) (prints files)) → Demand2 panelLimit prints
 program-demand-2 prints by =
     record {

@@ -1,4 +1,4 @@
--- What the program prints, by the contracts of the functions that it calls, in the order in which it calls them.
+-- What may be printed for files, by the contracts of the functions that the program calls, in the order in which it calls them.
 use Prim.Native.Nat.{ℕ}
 use mathlib.Core.Path.{_≡_}
 use mathlib.Core.List.{List, [], _∷_, _++_}
@@ -18,7 +18,7 @@ use Rattle.listing.specs.Refused.{refusedText}
 use Rattle.listing.specs.Pieces.{pieceCount}
 use Rattle.listing.specs.Standing.{Stands, Gives}
 
--- the bytes that it reads of each file: one more than the file may have
+-- the bytes that are read of each file: one more than the file may have
 abbrev pub firstBytes : Files → Files
 firstBytes files = record { NET = take 299082 (files .NET); MOD = take 348246 (files .MOD); STIM = take 1245147 (files .STIM) }
 
@@ -36,7 +36,7 @@ pub data Steps (stim program : List ℕ) : Lister → List ℕ → List ℕ → 
       → ((files : Files) (k : ℕ) → Stands files k l stim panel program memory shown → Gives files k lent p out stim panel′ program memory′ shown′)
       → Steps stim program (p .lister) panel′ memory′ shown′ pieces → Steps stim program l panel memory shown (take (p .length) out ∷ pieces)
 
--- A text that the program prints, having read these files. A check's answer is as its contract says, and a refusal is printed by
+-- A text that may be printed, these bytes of the files being read. A check's answer is as its contract says, and a refusal is printed by
 -- `write_refusal`; the first listing is as `open` leaves it, and as many steps follow as `piece_count` tells.
 pub data Prints (read : Files) : List ℕ → Type 0 where
   net-refused : (a : FileAnswer) → fileRefusal a ≡ netCheck panelLimit (read .NET) → (netCheck panelLimit (read .NET) ≡ pass → ⊥)
