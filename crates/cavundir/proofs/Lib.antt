@@ -1,3 +1,4 @@
 pub mod Parts
 pub mod Printing
 pub mod Accepting
+pub mod Handed
