@@ -2,14 +2,15 @@
 // Refusals). Nothing else is printed.
 
 ghost use mathlib.Core.Path.{_≡_};
-ghost use Prim.Native.Nat.{_≤_};
+ghost use mathlib.Core.Bool.{false};
+ghost use Prim.Native.Nat.{_≤_, _<_};
 ghost use lib.ListN.{length, take};
 ghost use Rattle.model.specs.Refusal.{pass};
 ghost use Rattle.model.specs.Acceptance.{panelLimit, fileCheck, Accepted};
 ghost use Rattle.model.specs.Stimulus.{stimCount};
 ghost use Rattle.checks.specs.Answer.{fileRefusal};
 ghost use Rattle.cavundir.specs.Got.{Brought};
-ghost use Rattle.cavundir.specs.Handing.{partAt, Handing};
+ghost use Rattle.cavundir.specs.Handing.{filesOf, partAt, partCount, partsAfter, Handing};
 use checks::FileAnswer;
 use libc::STDOUT_FILENO;
 use netlist::NetAnswer;
@@ -102,39 +103,55 @@ fn read_file(name: &[u8], bytes: &mut [u8]) -> usize
     count
 }
 
-// How many parts of what is printed were handed over, and whether the last of them could not be written.
-struct Handed {
-    parts: u32,
-    stopped: bool,
-}
-
-// The one writer. It is lent the bytes read of each file, and takes no other bytes than the k-th part of what is printed for them.
-fn put(net: &[u8], table: &[u8], stim: &[u8], k: u32, part: &[u8]) -> bool
-    requires { ⌜ now part ≡ partAt (record { NET = now net; MOD = now table; STIM = now stim }) k ⌝ }
+// The one writer. It is lent the bytes read of each file and takes the next part of what is printed for them, no other; it counts a
+// part that was written and tells one that could not be. It counts behind a reference, since a number could be handed over twice.
+fn put(net: &[u8], table: &[u8], stim: &[u8], part: &[u8], parts: &mut u32, failed: &mut bool)
+    requires { ⌜ now part ≡ partAt (filesOf (now net) (now table) (now stim)) (now parts) ⌝ }
+    requires { ⌜ now parts < partCount (filesOf (now net) (now table) (now stim)) ⌝ }
+    requires { ⌜ now failed ≡ false ⌝ }
+    ensures counted { λ _. ⌜ now (parts .exit) ≡ partsAfter (now (parts .entry)) (now (failed .exit)) ⌝ }
 {
-    io::write_all(STDOUT_FILENO, part)
-}
-
-// "prints one line of two fields, number and returned value".
-fn print_refusal(net: &[u8], table: &[u8], stim: &[u8], answer: FileAnswer) -> Handed
-    requires { ⌜ fileRefusal answer ≡ fileCheck panelLimit (record { NET = now net; MOD = now table; STIM = now stim }) ⌝ }
-    requires { ⌜ (fileRefusal answer ≡ pass → ⊥) ⌝ }
-    ensures { λ r. ⌜ Handing (record { NET = now (net .entry); MOD = now (table .entry); STIM = now (stim .entry) }) r ⌝ }
-{
-    let mut line = [0u8; 13];
-    let length = listing::write_refusal(answer, &mut line);
-    let written = put(net, table, stim, 0, &line[..length]);
-    Handed {
-        parts: 1,
-        stopped: !written,
+    if io::write_all(STDOUT_FILENO, part) {
+        *parts += 1;
+    } else {
+        *failed = true;
     }
 }
 
+// "prints one line of two fields, number and returned value".
+fn print_refusal(
+    net: &[u8],
+    table: &[u8],
+    stim: &[u8],
+    answer: FileAnswer,
+    parts: &mut u32,
+    failed: &mut bool,
+)
+    requires { ⌜ fileRefusal answer ≡ fileCheck panelLimit (filesOf (now net) (now table) (now stim)) ⌝ }
+    requires { ⌜ (fileRefusal answer ≡ pass → ⊥) ⌝ }
+    requires { ⌜ now parts ≡ 0 ⌝ }
+    requires { ⌜ now failed ≡ false ⌝ }
+    ensures handed { λ _. ⌜ Handing (filesOf (now (net .entry)) (now (table .entry)) (now (stim .entry))) (now (parts .exit)) (now (failed .exit)) ⌝ }
+{
+    let mut line = [0u8; 13];
+    let length = listing::write_refusal(answer, &mut line);
+    put(net, table, stim, &line[..length], parts, failed);
+}
+
 // The listing, piece by piece, until one can not be written.
-fn print_listing(net: &[u8], table: &[u8], stim: &[u8], lines: u16) -> Handed
-    requires { ⌜ Accepted panelLimit (record { NET = now net; MOD = now table; STIM = now stim }) ⌝ }
+fn print_listing(
+    net: &[u8],
+    table: &[u8],
+    stim: &[u8],
+    lines: u16,
+    parts: &mut u32,
+    failed: &mut bool,
+)
+    requires { ⌜ Accepted panelLimit (filesOf (now net) (now table) (now stim)) ⌝ }
     requires { ⌜ lines ≡ stimCount (now stim) ⌝ }
-    ensures { λ r. ⌜ Handing (record { NET = now (net .entry); MOD = now (table .entry); STIM = now (stim .entry) }) r ⌝ }
+    requires { ⌜ now parts ≡ 0 ⌝ }
+    requires { ⌜ now failed ≡ false ⌝ }
+    ensures handed { λ _. ⌜ Handing (filesOf (now (net .entry)) (now (table .entry)) (now (stim .entry))) (now (parts .exit)) (now (failed .exit)) ⌝ }
 {
     let mut panel = panel_buffer();
     let mut program = program_buffer();
@@ -152,7 +169,7 @@ fn print_listing(net: &[u8], table: &[u8], stim: &[u8], lines: u16) -> Handed
         &mut shown,
     );
     let count = listing::piece_count(lister.end);
-    while lister.pieces < count {
+    for _ in 0..count {
         let next = lister.step(
             stim,
             &mut panel,
@@ -161,87 +178,71 @@ fn print_listing(net: &[u8], table: &[u8], stim: &[u8], lines: u16) -> Handed
             &mut shown,
             &mut piece,
         );
-        let k = lister.pieces;
-        if !put(net, table, stim, k, &piece[..next.length]) {
-            return Handed {
-                parts: k + 1,
-                stopped: true,
-            };
+        put(net, table, stim, &piece[..next.length], parts, failed);
+        if *failed {
+            return;
         }
         lister = next.lister;
     }
-    Handed {
-        parts: count,
-        stopped: false,
-    }
 }
 
-// What was read of each file, and what was handed over.
-struct Ran {
+// How many bytes were read of each file.
+struct Read {
     net: usize,
     table: usize,
     stim: usize,
-    handed: Handed,
 }
 
 // "Order: NET, MOD, STIM": each is checked before the next is read.
-fn run(net: &mut [u8], table: &mut [u8], stim: &mut [u8]) -> Ran
-    ensures { λ r. ⌜ Handing (record { NET = take (r .net) (now (net .exit)); MOD = take (r .table) (now (table .exit)); STIM = take (r .stim) (now (stim .exit)) }) (r .handed) ⌝ }
+fn run(
+    net: &mut [u8],
+    table: &mut [u8],
+    stim: &mut [u8],
+    parts: &mut u32,
+    failed: &mut bool,
+) -> Read
+    requires { ⌜ now parts ≡ 0 ⌝ }
+    requires { ⌜ now failed ≡ false ⌝ }
+    ensures handed { λ r. ⌜ Handing (filesOf (take (r .net) (now (net .exit))) (take (r .table) (now (table .exit))) (take (r .stim) (now (stim .exit)))) (now (parts .exit)) (now (failed .exit)) ⌝ }
 {
     let n = read_file(b"NET", net);
     let first = netlist::check_net(&net[..n], 4096);
     let NetAnswer::Accepted(_) = first else {
-        let refused = print_refusal(
-            &net[..n],
-            &table[..0],
-            &stim[..0],
-            checks::net_answer(first),
-        );
-        return Ran {
+        let answer = checks::net_answer(first);
+        print_refusal(&net[..n], &table[..0], &stim[..0], answer, parts, failed);
+        return Read {
             net: n,
             table: 0,
             stim: 0,
-            handed: refused,
         };
     };
     let m = read_file(b"MOD", table);
     let second = wiring::check_mod(&net[..n], &table[..m]);
     let ModAnswer::Accepted(_, _) = second else {
-        let refused = print_refusal(
-            &net[..n],
-            &table[..m],
-            &stim[..0],
-            checks::mod_answer(second),
-        );
-        return Ran {
+        let answer = checks::mod_answer(second);
+        print_refusal(&net[..n], &table[..m], &stim[..0], answer, parts, failed);
+        return Read {
             net: n,
             table: m,
             stim: 0,
-            handed: refused,
         };
     };
     let k = read_file(b"STIM", stim);
     let third = stimulus::check_stim(&net[..n], &stim[..k]);
     let StimAnswer::Accepted(lines) = third else {
-        let refused = print_refusal(
-            &net[..n],
-            &table[..m],
-            &stim[..k],
-            checks::stim_answer(third),
-        );
-        return Ran {
+        let answer = checks::stim_answer(third);
+        print_refusal(&net[..n], &table[..m], &stim[..k], answer, parts, failed);
+        return Read {
             net: n,
             table: m,
             stim: k,
-            handed: refused,
         };
     };
-    let listed = print_listing(&net[..n], &table[..m], &stim[..k], lines);
-    Ran {
+    print_listing(&net[..n], &table[..m], &stim[..k], lines, parts, failed);
+    Read {
         net: n,
         table: m,
         stim: k,
-        handed: listed,
     }
 }
 
@@ -249,5 +250,7 @@ fn main() {
     let mut net = net_buffer();
     let mut table = mod_buffer();
     let mut stim = stim_buffer();
-    run(&mut net, &mut table, &mut stim);
+    let mut parts: u32 = 0;
+    let mut failed = false;
+    run(&mut net, &mut table, &mut stim, &mut parts, &mut failed);
 }

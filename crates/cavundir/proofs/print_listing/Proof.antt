@@ -1,25 +1,26 @@
--- Every piece is one of the listing of the files (`Printing`).
+-- Every part that is handed over is the next piece of the files' listing (`Printing`).
 use Prim.Native.Nat.{_-_}
 use mathlib.Core.Path.{_≡_, refl, sym}
 use lib.ListN.{length}
-use lib.Seq.{length-take-le}
 use native.Mathlib.Omega.{arith}
 use borrow.Author.Needs.{needs}
 use Rattle.memory.specs.Memory.{memoryLength}
 use Rattle.tables.specs.Panel.{panelLength}
 use Rattle.tables.specs.Program.{programLength}
 use Rattle.listing.specs.Changes.{pieceLength}
-use Rattle.cavundir.proofs.Printing.{Prints, prints-starts, handed-all, standing, handed-some, pieces-low, gives-less, gives-room, gives-part, prints-more}
+use Rattle.cavundir.specs.Handing.{filesOf}
+use Rattle.cavundir.proofs.Parts.{prefix-length}
+use Rattle.cavundir.proofs.Printing.{parts-few, handed-cut, Underway, starts, all-handed, left, standing, gives-room, gives-next, goes-on}
 use Rattle.cavundir.proofs.print_listing.Statement.{statement}
 use Rattle.cavundir.proofs.print_listing.Tie as tie
 
 abbrev Inv-loop : tie.InvT-loop
-Inv-loop net table stim lines panel₀ program memory₀ shown₀ piece₀ lister₀ count panel memory shown piece lister =
-    Prints (record { NET = net; MOD = table; STIM = stim }) count lister stim panel program memory shown piece
+Inv-loop net table stim lines parts₀ failed₀ panel₀ program memory₀ shown₀ piece₀ lister₀ count counter₀ parts failed panel memory shown piece lister counter =
+    Underway (filesOf net table stim) count lister stim panel program memory shown piece parts failed counter
 
 abbrev μ-loop : tie.MeasureT-loop
-μ-loop net table stim lines panel₀ program memory₀ shown₀ piece₀ lister₀ count panel memory shown piece lister =
-    count - lister .pieces
+μ-loop net table stim lines parts₀ failed₀ panel₀ program memory₀ shown₀ piece₀ lister₀ count counter₀ parts failed panel memory shown piece lister counter =
+    count - counter
 
 panel-buffer-requires : tie.Need-panel-buffer-requires Inv-loop μ-loop
 panel-buffer-requires c κs = search needs
@@ -47,64 +48,92 @@ slice-aggregate-open-4 c = search needs
 
 open-requires : tie.Need-open-requires Inv-loop μ-loop
 open-requires c κs =
-    let s = c .before .before .before .before .before .before .before .before .before .before .before in
-    let e : length (c .before .before .before .before .before .before .before .panel-buffer .result) ≡ panelLength = search needs in
-    let f : length (c .before .before .before .before .before .before .program-buffer .result) ≡ programLength = search needs in
-    let g : length (c .before .before .before .before .before .memory-buffer .result) ≡ memoryLength = search needs in
-    (s .pre .0, (s .pre .1, (e, f, g, refl)))
+    let buffers = c .before .before .before .before in
+    let s = buffers .before .before .before .before .before .before .before in
+    let e : length (buffers .before .before .before .panel-buffer .result) ≡ panelLength = search needs in
+    let f : length (buffers .before .before .program-buffer .result) ≡ programLength = search needs in
+    let g : length (buffers .before .memory-buffer .result) ≡ memoryLength = search needs in
+    (s .pre .0, (s .pre .1 .0, (e, f, g, refl)))
 
 piece-count-requires : tie.Need-piece-count-requires Inv-loop μ-loop
 piece-count-requires c κs = search needs
 
 loop-holds : tie.Need-loop-holds Inv-loop μ-loop
 loop-holds c =
-    let g : length (c .before .before .before .before .before .before .before .before .before .before .piece-buffer .result) ≡ pieceLength = search needs in
-    prints-starts (c .before .before .before .before .before .«open» .ensures) _ (c .piece-count .ensures) _ g
+    let opened = c .before .before .before .before .before in
+    let buffers = opened .before .before .before .before .before in
+    let s = buffers .before .before .before .before .before .before .before in
+    let g : length (buffers .piece-buffer .result) ≡ pieceLength = search needs in
+    starts (opened .«open» .ensures) (c .piece-count .ensures) g (s .pre .1 .1 .0) (s .pre .1 .1 .1)
 
 slice-aggregate-step : tie.Need-slice-aggregate-step Inv-loop μ-loop
-slice-aggregate-step c = sym ((c .before .before .before .loop .inv .stands (c .before .if1 .taken)) .right .sizes .panel-size)
+slice-aggregate-step c = sym ((c .before .before .loop .inv .stands (c .before .loop-test .taken)) .right .sizes .panel-size)
 
 slice-aggregate-step-2 : tie.Need-slice-aggregate-step-2 Inv-loop μ-loop
 slice-aggregate-step-2 c = search needs
 
 slice-aggregate-step-3 : tie.Need-slice-aggregate-step-3 Inv-loop μ-loop
-slice-aggregate-step-3 c = sym ((c .before .before .before .before .before .loop .inv .stands (c .before .before .before .if1 .taken)) .right .sizes .memory-size)
+slice-aggregate-step-3 c =
+    let turn = c .before .before .before in
+    sym ((turn .before .loop .inv .stands (turn .loop-test .taken)) .right .sizes .memory-size)
 
 slice-aggregate-step-4 : tie.Need-slice-aggregate-step-4 Inv-loop μ-loop
-slice-aggregate-step-4 c = sym ((c .before .before .before .before .before .before .loop .inv .stands (c .before .before .before .before .if1 .taken)) .shown-size)
+slice-aggregate-step-4 c =
+    let turn = c .before .before .before .before in
+    sym ((turn .before .loop .inv .stands (turn .loop-test .taken)) .shown-size)
 
 slice-aggregate-step-5 : tie.Need-slice-aggregate-step-5 Inv-loop μ-loop
-slice-aggregate-step-5 c = sym (c .before .before .before .before .before .before .before .loop .inv .room)
+slice-aggregate-step-5 c = sym (c .before .before .before .before .before .before .loop .inv .room)
 
 step-requires : tie.Need-step-requires Inv-loop μ-loop
-step-requires c κs = (standing (c .before .before .before .before .before .before .before .loop .inv) (c .before .before .before .before .before .if1 .taken), c .before .before .before .before .before .before .before .loop .inv .room)
+step-requires c κs =
+    let turn = c .before .before .before .before .before in
+    (standing (turn .before .loop .inv) (turn .loop-test .taken), turn .before .loop .inv .room)
 
 array-share-prefix-piece : tie.Need-array-share-prefix-piece Inv-loop μ-loop
-array-share-prefix-piece c = gives-room (c .before .before .before .before .before .before .before .before .before .before .before .before .loop .inv) (c .before .before .before .before .before .before .before .before .before .before .if1 .taken) (c .before .before .before .before .step .ensures)
+array-share-prefix-piece c =
+    let stepped = c .before .before .before .before in
+    let turn = stepped .before .before .before .before .before .before in
+    omega (arith, gives-room (turn .before .loop .inv) (turn .loop-test .taken) (stepped .step .ensures))
 
 slice-aggregate-put : tie.Need-slice-aggregate-put Inv-loop μ-loop
-slice-aggregate-put c = sym (length-take-le _ _ (gives-room (c .before .before .before .before .before .before .before .before .before .before .before .before .before .loop .inv) (c .before .before .before .before .before .before .before .before .before .before .before .if1 .taken) (c .before .before .before .before .before .step .ensures)))
+slice-aggregate-put c =
+    let stepped = c .before .before .before .before .before in
+    let turn = stepped .before .before .before .before .before .before in
+    let room = gives-room (turn .before .loop .inv) (turn .loop-test .taken) (stepped .step .ensures) in
+    search (needs, prefix-length)
 
 put-requires : tie.Need-put-requires Inv-loop μ-loop
-put-requires c κs = gives-part (c .before .before .before .before .before .before .before .before .before .before .before .before .before .loop .inv) (c .before .before .before .before .before .before .before .before .before .before .before .if1 .taken) (c .before .before .before .before .before .step .ensures)
-
-add-t40 : tie.Need-add-t40 Inv-loop μ-loop
-add-t40 c = record { fits = omega (arith, pieces-low (c .before .before .before .before .before .before .before .before .before .before .before .before .before .before .before .loop .inv) (c .before .before .before .before .before .before .before .before .before .before .before .before .before .if1 .taken)) }
+put-requires c κs =
+    let stepped = c .before .before .before .before .before .before .before in
+    let turn = stepped .before .before .before .before .before .before in
+    let so-far = turn .before .loop .inv in
+    (gives-next so-far (turn .loop-test .taken) (stepped .step .ensures), (left so-far (turn .loop-test .taken), so-far .unfailed))
 
 returns : tie.Need-returns Inv-loop μ-loop
-returns c = handed-some (c .before .before .before .before .before .before .before .before .before .before .before .before .before .before .before .loop .inv) (c .before .before .before .before .before .before .before .before .before .before .before .before .before .if1 .taken)
+returns c =
+    let stepped = c .before .before .before .before .before .before .before .before .before in
+    let turn = stepped .before .before .before .before .before .before in
+    handed-cut (turn .before .loop .parts) (c .before .put .ensures) (c .if1 .taken) (left (turn .before .loop .inv) (turn .loop-test .taken))
+
+add-counter : tie.Need-add-counter Inv-loop μ-loop
+add-counter c =
+    let stepped = c .before .before .before .before .before .before .before .before .before .before in
+    let turn = stepped .before .before .before .before .before .before in
+    let so-far = turn .before .loop .inv in
+    record { fits = omega (arith, so-far .each, parts-few _ _ (left so-far (turn .loop-test .taken))) }
 
 loop-less : tie.Need-loop-less Inv-loop μ-loop
-loop-less c =
-    let e = gives-less (c .before .before .before .before .before .before .before .before .before .before .before .before .before .before .before .before .loop .inv) (c .before .before .before .before .before .before .before .before .before .before .before .before .before .before .if1 .taken) (c .before .before .before .before .before .before .before .before .step .ensures) in
-    let l = c .before .before .before .before .before .before .before .before .before .before .before .before .before .before .if1 .taken in
-    omega (arith, e, l)
+loop-less c = omega arith
 
 loop-again : tie.Need-loop-again Inv-loop μ-loop
-loop-again c = prints-more (c .before .before .before .before .before .before .before .before .before .before .before .before .before .before .before .before .loop .inv) (c .before .before .before .before .before .before .before .before .before .before .before .before .before .before .if1 .taken) (c .before .before .before .before .before .before .before .before .step .ensures)
+loop-again c =
+    let stepped = c .before .before .before .before .before .before .before .before .before .before in
+    let turn = stepped .before .before .before .before .before .before in
+    goes-on (turn .before .loop .inv) (turn .loop-test .taken) (stepped .step .ensures) (c .before .before .put .ensures) (c .before .if1 .left)
 
 returns-2 : tie.Need-returns-2 Inv-loop μ-loop
-returns-2 c = handed-all (c .before .before .loop .inv)
+returns-2 c = all-handed (c .before .loop .inv) (c .loop-test .left)
 
 pub print-listing-spec : {M : Type 1} → statement M
 print-listing-spec =
@@ -132,8 +161,8 @@ print-listing-spec =
     array-share-prefix-piece
     slice-aggregate-put
     put-requires
-    add-t40
     returns
+    add-counter
     loop-less
     loop-again
     returns-2)

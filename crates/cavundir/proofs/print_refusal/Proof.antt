@@ -1,12 +1,11 @@
 -- The line of a refusal fits, and is the one part of what is printed.
-use mathlib.Core.Path.{sym, _∙_}
-use lib.Seq.{length-take-le}
+use mathlib.Core.Path.{_∙_}
 use native.Mathlib.Omega.{arith}
-use Rattle.checks.specs.Answer.{fileRefusal}
 use Rattle.listing.specs.Refused.{refusedText}
 use Rattle.listing.proofs.Changes.{refused-short}
 use borrow.Author.Needs.{needs}
-use Rattle.cavundir.proofs.Printing.{written, refusal-part, refusal-count}
+use Rattle.cavundir.proofs.Parts.{prefix-length}
+use Rattle.cavundir.proofs.Printing.{written, line-short, refusal-part, refusal-count, refusal-handed}
 use Rattle.cavundir.proofs.print_refusal.Statement.{statement}
 use Rattle.cavundir.proofs.print_refusal.Tie as tie
 
@@ -19,24 +18,24 @@ write-refusal-requires c κs = search needs
 array-share-prefix-line : tie.Need-array-share-prefix-line
 array-share-prefix-line c =
     let w = c .before .write-refusal in
-    omega (arith, w .kept, w .ensures .0, refused-short (fileRefusal (c .before .before .before .before .before .before .args .answer)))
+    omega (arith, w .kept, line-short _ _ (w .ensures .0))
 
 slice-aggregate-put : tie.Need-slice-aggregate-put
 slice-aggregate-put c =
     let w = c .before .before .write-refusal in
-    sym (length-take-le (w .result) (w .last .1 .0) (omega (arith, w .kept, w .ensures .0, refused-short (fileRefusal (c .before .before .before .before .before .before .before .args .answer)))))
+    prefix-length (w .result) (w .last .1 .0) (omega (arith, w .kept, line-short _ _ (w .ensures .0)))
 
 put-requires : tie.Need-put-requires
 put-requires c κs =
-    let w = c .before .before .write-refusal in
-    let s = c .before .before .before .before .before .before .before in
-    written (refusedText (fileRefusal (s .args .answer))) _ _ _ (w .ensures .1) (w .ensures .0) (refused-short (fileRefusal (s .args .answer))) ∙ refusal-part _ (s .args .answer) (s .pre .0) (s .pre .1)
+    let before = c .before .before .before .before in
+    let w = before .write-refusal in
+    let s = before .before .before .before .before .before in
+    let one = refusal-count _ (s .args .answer) (s .pre .0) (s .pre .1 .0) in
+    let line = written (refusedText _) _ _ _ (w .ensures .1) (w .ensures .0) (refused-short _) in
+    (line ∙ refusal-part _ (s .args .answer) (s .pre .0) (s .pre .1 .0) _, (omega (arith, one, s .pre .1 .1 .0), s .pre .1 .1 .1))
 
 returns : tie.Need-returns
-returns c =
-    let s = c .before .before .before .before .before .before .before .before in
-    let one = refusal-count _ (s .args .answer) (s .pre .0) (s .pre .1) in
-    record { few = omega (arith, one); whole = λ q. one }
+returns c = search (needs, refusal-handed)
 
 pub print-refusal-spec : {M : Type 1} → statement M
 print-refusal-spec =

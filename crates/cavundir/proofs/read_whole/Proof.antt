@@ -39,32 +39,50 @@ enum-told : tie.Need-enum-told Inv-loop μ-loop
 enum-told c = search needs
 
 same-length : tie.Need-same-length Inv-loop μ-loop
-same-length c = whole-kept (c .before .before .before .before .before .before .before .loop .bytes) (c .before .before .before .before .read-at .last .1 .0) (c .before .before .before .before .before .before .before .loop .done) (c .before .before .before .before .read-at .kept .1 .0) ∙ c .before .before .before .before .before .before .before .loop .inv .0
+same-length c =
+    let got = c .before .before .before .before in
+    let turn = got .before .before .before in
+    let k = whole-kept (turn .loop .bytes) (got .read-at .last .1 .0) (turn .loop .done) (got .read-at .kept .1 .0) in
+    k ∙ turn .loop .inv .0
 
 returns : tie.Need-returns Inv-loop μ-loop
 returns c = search needs
 
 same-length-2 : tie.Need-same-length-2 Inv-loop μ-loop
-same-length-2 c = whole-kept (c .before .before .before .before .before .before .before .before .before .loop .bytes) (c .before .before .before .before .before .before .read-at .last .1 .0) (c .before .before .before .before .before .before .before .before .before .loop .done) (c .before .before .before .before .before .before .read-at .kept .1 .0) ∙ c .before .before .before .before .before .before .before .before .before .loop .inv .0
+same-length-2 c =
+    let got = c .before .before .before .before .before .before in
+    let turn = got .before .before .before in
+    let k = whole-kept (turn .loop .bytes) (got .read-at .last .1 .0) (turn .loop .done) (got .read-at .kept .1 .0) in
+    k ∙ turn .loop .inv .0
 
 returns-2 : tie.Need-returns-2 Inv-loop μ-loop
-returns-2 c = omega (arith, whole-kept (c .before .before .before .before .before .before .before .before .before .loop .bytes) (c .before .before .before .before .before .before .read-at .last .1 .0) (c .before .before .before .before .before .before .before .before .before .loop .done) (c .before .before .before .before .before .before .read-at .kept .1 .0), c .before .before .before .before .before .before .before .before .before .loop .inv .1)
+returns-2 c =
+    let got = c .before .before .before .before .before .before in
+    let turn = got .before .before .before in
+    let k = whole-kept (turn .loop .bytes) (got .read-at .last .1 .0) (turn .loop .done) (got .read-at .kept .1 .0) in
+    omega (arith, k, turn .loop .inv .1)
 
 add-done : tie.Need-add-done Inv-loop μ-loop
 add-done c =
-    let w = within (c .before .before .before .before .before .before .before .before .before .loop .bytes) (c .before .before .before .before .before .before .read-at .last .1 .0) (c .before .before .before .before .before .before .before .before .before .loop .done) (c .before .before .before .before .before .before .read-at .kept .1 .0) (c .before .before .before .before .before .before .before .before .before .loop .inv .1) (c .before .before .before .before .before .before .read-at .result) (c .before .before .more .given .0 .0) (c .before .before .more .given .1) (c .before .before .before .before .before .before .read-at .ensures) in
-    omega (arith, w, c .before .before .before .before .before .before .before .before .before .loop .inv .0, c .before .before .before .before .before .before .before .before .before .before .before .good)
+    let got = c .before .before .before .before .before .before in
+    let turn = got .before .before .before in
+    let w = within (turn .loop .bytes) (got .read-at .last .1 .0) (turn .loop .done) (got .read-at .kept .1 .0) (turn .loop .inv .1) (got .read-at .result) (c .before .before .more .given .0 .0) (c .before .before .more .given .1) (got .read-at .ensures) in
+    omega (arith, w, turn .loop .inv .0, turn .before .before .good)
 
 loop-less : tie.Need-loop-less Inv-loop μ-loop
 loop-less c =
-    let w = within (c .before .before .before .before .before .before .before .before .before .loop .bytes) (c .before .before .before .before .before .before .read-at .last .1 .0) (c .before .before .before .before .before .before .before .before .before .loop .done) (c .before .before .before .before .before .before .read-at .kept .1 .0) (c .before .before .before .before .before .before .before .before .before .loop .inv .1) (c .before .before .before .before .before .before .read-at .result) (c .before .before .more .given .0 .0) (c .before .before .more .given .1) (c .before .before .before .before .before .before .read-at .ensures) in
-    omega (arith, w, c .before .before .before .before .before .before .before .before .before .loop .inv .0, c .if1 .left, c .before .before .before .before .before .before .before .before .loop-test .taken)
+    let got = c .before .before .before .before .before .before in
+    let turn = got .before .before .before in
+    let w = within (turn .loop .bytes) (got .read-at .last .1 .0) (turn .loop .done) (got .read-at .kept .1 .0) (turn .loop .inv .1) (got .read-at .result) (c .before .before .more .given .0 .0) (c .before .before .more .given .1) (got .read-at .ensures) in
+    omega (arith, w, turn .loop .inv .0, c .if1 .left, got .before .before .loop-test .taken)
 
 loop-again : tie.Need-loop-again Inv-loop μ-loop
 loop-again c =
-    let k = whole-kept (c .before .before .before .before .before .before .before .before .before .loop .bytes) (c .before .before .before .before .before .before .read-at .last .1 .0) (c .before .before .before .before .before .before .before .before .before .loop .done) (c .before .before .before .before .before .before .read-at .kept .1 .0) in
-    let w = within (c .before .before .before .before .before .before .before .before .before .loop .bytes) (c .before .before .before .before .before .before .read-at .last .1 .0) (c .before .before .before .before .before .before .before .before .before .loop .done) (c .before .before .before .before .before .before .read-at .kept .1 .0) (c .before .before .before .before .before .before .before .before .before .loop .inv .1) (c .before .before .before .before .before .before .read-at .result) (c .before .before .more .given .0 .0) (c .before .before .more .given .1) (c .before .before .before .before .before .before .read-at .ensures) in
-    (k ∙ c .before .before .before .before .before .before .before .before .before .loop .inv .0, omega (arith, k, w))
+    let got = c .before .before .before .before .before .before in
+    let turn = got .before .before .before in
+    let k = whole-kept (turn .loop .bytes) (got .read-at .last .1 .0) (turn .loop .done) (got .read-at .kept .1 .0) in
+    let w = within (turn .loop .bytes) (got .read-at .last .1 .0) (turn .loop .done) (got .read-at .kept .1 .0) (turn .loop .inv .1) (got .read-at .result) (c .before .before .more .given .0 .0) (c .before .before .more .given .1) (got .read-at .ensures) in
+    (k ∙ turn .loop .inv .0, omega (arith, k, w))
 
 same-length-3 : tie.Need-same-length-3 Inv-loop μ-loop
 same-length-3 c = c .before .loop .inv .0

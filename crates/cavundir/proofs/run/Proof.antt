@@ -1,11 +1,11 @@
 -- Each check has what it asks for, a refusal is the first of the files read, and the listing is of accepted files.
 use mathlib.Core.Path.{sym, _∙_}
-use lib.Seq.{length-take-le}
 use Rattle.model.proofs.Refusals.{pass-not-fail}
 use Rattle.netlist.proofs.Joined.{refusal-of, stage-pass}
 use Rattle.schedule.proofs.Told.{not-accepted}
 use Rattle.schedule.proofs.Stages.{passed}
 use Rattle.checks.proofs.Joined.{net-stops, mod-stops, stim-last}
+use Rattle.cavundir.proofs.Parts.{prefix-length}
 use Rattle.cavundir.proofs.Accepting.{all-accepted, mod-refuses, stim-refuses}
 use borrow.Author.Needs.{needs}
 use Rattle.cavundir.proofs.run.Statement.{statement}
@@ -21,7 +21,7 @@ slice-reshare-prefix-check-net : tie.Need-slice-reshare-prefix-check-net
 slice-reshare-prefix-check-net c = search needs
 
 slice-aggregate-check-net : tie.Need-slice-aggregate-check-net
-slice-aggregate-check-net c = sym (length-take-le _ _ (c .before .before .before .read-file .ensures))
+slice-aggregate-check-net c = search (needs, prefix-length)
 
 check-net-requires : tie.Need-check-net-requires
 check-net-requires c κs = search needs
@@ -29,11 +29,14 @@ check-net-requires c κs = search needs
 enum-told : tie.Need-enum-told
 enum-told c = search needs
 
+net-answer-requires : tie.Need-net-answer-requires
+net-answer-requires c κs = search needs
+
 slice-reshare-prefix-print-refusal : tie.Need-slice-reshare-prefix-print-refusal
 slice-reshare-prefix-print-refusal c = search needs
 
 slice-aggregate-print-refusal : tie.Need-slice-aggregate-print-refusal
-slice-aggregate-print-refusal c = sym (length-take-le _ _ (c .before .before .before .before .before .before .read-file .ensures))
+slice-aggregate-print-refusal c = search (needs, prefix-length)
 
 slice-reshare-prefix-print-refusal-2 : tie.Need-slice-reshare-prefix-print-refusal-2
 slice-reshare-prefix-print-refusal-2 c = search needs
@@ -47,15 +50,12 @@ slice-reshare-prefix-print-refusal-3 c = search needs
 slice-aggregate-print-refusal-3 : tie.Need-slice-aggregate-print-refusal-3
 slice-aggregate-print-refusal-3 c = search needs
 
-net-answer-requires : tie.Need-net-answer-requires
-net-answer-requires c κs = search needs
-
 print-refusal-requires : tie.Need-print-refusal-requires
 print-refusal-requires c κs =
-    let refuses = refusal-of _ (c .before .before .before .before .match .keys2) in (
-      c .net-answer .ensures ∙ net-stops _ _ _ _ _ (c .before .before .before .before .before .check-net .ensures) refuses,
-      λ e. pass-not-fail (sym e ∙ c .net-answer .ensures ∙ refuses .is),
-    )
+    let matched = c .before .before .before .before .before .before in
+    let told = c .before .before .before .before .before .net-answer .ensures in
+    let refuses = refusal-of _ (matched .match .keys2) in
+    (told ∙ net-stops _ _ _ _ _ (matched .before .check-net .ensures) refuses, (λ e. pass-not-fail (sym e ∙ told ∙ refuses .is), (search needs, search needs)))
 
 same-length : tie.Need-same-length
 same-length c = search needs
@@ -79,31 +79,34 @@ slice-reshare-prefix-check-mod : tie.Need-slice-reshare-prefix-check-mod
 slice-reshare-prefix-check-mod c = search needs
 
 slice-aggregate-check-mod : tie.Need-slice-aggregate-check-mod
-slice-aggregate-check-mod c = sym (length-take-le _ _ (c .before .before .before .before .before .before .before .before .before .before .before .before .read-file .ensures))
+slice-aggregate-check-mod c = search (needs, prefix-length)
 
 slice-reshare-prefix-check-mod-2 : tie.Need-slice-reshare-prefix-check-mod-2
 slice-reshare-prefix-check-mod-2 c = search needs
 
 slice-aggregate-check-mod-2 : tie.Need-slice-aggregate-check-mod-2
-slice-aggregate-check-mod-2 c = sym (length-take-le _ _ (c .before .before .before .before .read-file2 .ensures))
+slice-aggregate-check-mod-2 c = search (needs, prefix-length)
 
 check-mod-requires : tie.Need-check-mod-requires
-check-mod-requires c κs = stage-pass _ _ _ _ (c .before .before .before .before .before .before .before .before .before .check-net .ensures) (c .before .before .before .before .before .before .before .enum-told .given .1)
+check-mod-requires c κs = search (needs, stage-pass)
 
 enum-told-2 : tie.Need-enum-told-2
 enum-told-2 c = search needs
+
+mod-answer-requires : tie.Need-mod-answer-requires
+mod-answer-requires c κs = search needs
 
 slice-reshare-prefix-print-refusal-4 : tie.Need-slice-reshare-prefix-print-refusal-4
 slice-reshare-prefix-print-refusal-4 c = search needs
 
 slice-aggregate-print-refusal-4 : tie.Need-slice-aggregate-print-refusal-4
-slice-aggregate-print-refusal-4 c = sym (length-take-le _ _ (c .before .before .before .before .before .before .before .before .before .before .before .before .before .before .before .before .read-file .ensures))
+slice-aggregate-print-refusal-4 c = search (needs, prefix-length)
 
 slice-reshare-prefix-print-refusal-5 : tie.Need-slice-reshare-prefix-print-refusal-5
 slice-reshare-prefix-print-refusal-5 c = search needs
 
 slice-aggregate-print-refusal-5 : tie.Need-slice-aggregate-print-refusal-5
-slice-aggregate-print-refusal-5 c = sym (length-take-le _ _ (c .before .before .before .before .before .before .before .before .read-file2 .ensures))
+slice-aggregate-print-refusal-5 c = search (needs, prefix-length)
 
 slice-reshare-prefix-print-refusal-6 : tie.Need-slice-reshare-prefix-print-refusal-6
 slice-reshare-prefix-print-refusal-6 c = search needs
@@ -111,15 +114,16 @@ slice-reshare-prefix-print-refusal-6 c = search needs
 slice-aggregate-print-refusal-6 : tie.Need-slice-aggregate-print-refusal-6
 slice-aggregate-print-refusal-6 c = search needs
 
-mod-answer-requires : tie.Need-mod-answer-requires
-mod-answer-requires c κs = search needs
-
 print-refusal-requires-2 : tie.Need-print-refusal-requires-2
 print-refusal-requires-2 c κs =
-    let net-right = stage-pass _ _ _ _ (c .before .before .before .before .before .before .before .before .before .before .before .before .before .before .before .check-net .ensures) (c .before .before .before .before .before .before .before .before .before .before .before .before .before .enum-told .given .1) in
-    let refuses = not-accepted _ (c .before .before .before .before .match2 .keys2) in (
-      c .mod-answer .ensures ∙ mod-stops _ _ _ net-right _ _ _ (c .before .before .before .before .before .check-mod .ensures) refuses,
-      λ e. mod-refuses _ refuses (sym (c .mod-answer .ensures) ∙ e),
+    let matched = c .before .before .before .before .before .before in
+    let net-told = matched .before .before .before .before .before .before .before .before .before in
+    let start = net-told .before .before .before .before .before .before .before .before .before .before .before .before in
+    let net-right = stage-pass _ _ _ _ (net-told .before .before .check-net .ensures) (net-told .enum-told .given .1) in
+    let told = c .before .before .before .before .before .mod-answer .ensures in
+    let refuses = not-accepted _ (matched .match2 .keys2) in (
+      told ∙ mod-stops _ _ _ net-right _ _ _ (matched .before .check-mod .ensures) refuses,
+      (λ e. mod-refuses _ refuses (sym told ∙ e), start .pre),
     )
 
 same-length-4 : tie.Need-same-length-4
@@ -144,51 +148,62 @@ slice-reshare-prefix-check-stim : tie.Need-slice-reshare-prefix-check-stim
 slice-reshare-prefix-check-stim c = search needs
 
 slice-aggregate-check-stim : tie.Need-slice-aggregate-check-stim
-slice-aggregate-check-stim c = sym (length-take-le _ _ (c .before .before .before .before .before .before .before .before .before .before .before .before .before .before .before .before .before .before .before .before .before .before .read-file .ensures))
+slice-aggregate-check-stim c = search (needs, prefix-length)
 
 slice-reshare-prefix-check-stim-2 : tie.Need-slice-reshare-prefix-check-stim-2
 slice-reshare-prefix-check-stim-2 c = search needs
 
 slice-aggregate-check-stim-2 : tie.Need-slice-aggregate-check-stim-2
-slice-aggregate-check-stim-2 c = sym (length-take-le _ _ (c .before .before .before .before .read-file3 .ensures))
+slice-aggregate-check-stim-2 c = search (needs, prefix-length)
 
 check-stim-requires : tie.Need-check-stim-requires
-check-stim-requires c κs = stage-pass _ _ _ _ (c .before .before .before .before .before .before .before .before .before .before .before .before .before .before .before .before .before .before .before .check-net .ensures) (c .before .before .before .before .before .before .before .before .before .before .before .before .before .before .before .before .before .enum-told .given .1)
+check-stim-requires c κs =
+    let mod-told = c .before .before .before .before .before .before .before in
+    let net-told = mod-told .before .before .before .before .before .before .before .before .before .before in
+    stage-pass _ _ _ _ (net-told .before .before .check-net .ensures) (net-told .enum-told .given .1)
 
 enum-known-third : tie.Need-enum-known-third
 enum-known-third c = search needs
+
+stim-answer-requires : tie.Need-stim-answer-requires
+stim-answer-requires c κs = search needs
 
 slice-reshare-prefix-print-refusal-7 : tie.Need-slice-reshare-prefix-print-refusal-7
 slice-reshare-prefix-print-refusal-7 c = search needs
 
 slice-aggregate-print-refusal-7 : tie.Need-slice-aggregate-print-refusal-7
-slice-aggregate-print-refusal-7 c = sym (length-take-le _ _ (c .before .before .before .before .before .before .before .before .before .before .before .before .before .before .before .before .before .before .before .before .before .before .before .before .before .before .read-file .ensures))
+slice-aggregate-print-refusal-7 c = search (needs, prefix-length)
 
 slice-reshare-prefix-print-refusal-8 : tie.Need-slice-reshare-prefix-print-refusal-8
 slice-reshare-prefix-print-refusal-8 c = search needs
 
 slice-aggregate-print-refusal-8 : tie.Need-slice-aggregate-print-refusal-8
-slice-aggregate-print-refusal-8 c = sym (length-take-le _ _ (c .before .before .before .before .before .before .before .before .before .before .before .before .before .before .before .before .before .before .read-file2 .ensures))
+slice-aggregate-print-refusal-8 c = search (needs, prefix-length)
 
 slice-reshare-prefix-print-refusal-9 : tie.Need-slice-reshare-prefix-print-refusal-9
 slice-reshare-prefix-print-refusal-9 c = search needs
 
 slice-aggregate-print-refusal-9 : tie.Need-slice-aggregate-print-refusal-9
-slice-aggregate-print-refusal-9 c = sym (length-take-le _ _ (c .before .before .before .before .before .before .before .before .before .read-file3 .ensures))
-
-stim-answer-requires : tie.Need-stim-answer-requires
-stim-answer-requires c κs = search needs
+slice-aggregate-print-refusal-9 c = search (needs, prefix-length)
 
 print-refusal-requires-3 : tie.Need-print-refusal-requires-3
 print-refusal-requires-3 c κs =
-    let net-right = stage-pass _ _ _ _ (c .before .before .before .before .before .before .before .before .before .before .before .before .before .before .before .before .before .before .before .before .before .before .before .before .before .check-net .ensures) (c .before .before .before .before .before .before .before .before .before .before .before .before .before .before .before .before .before .before .before .before .before .before .before .enum-told .given .1) in
-    let mod-right = passed _ _ _ _ _ _ (c .before .before .before .before .before .before .before .before .before .before .before .before .before .before .before .check-mod .ensures) (c .before .before .before .before .before .before .before .before .before .before .before .before .before .enum-told2 .given .1) in (
-      c .stim-answer .ensures ∙ stim-last _ _ _ net-right _ mod-right (c .before .before .before .before .before .check-stim .ensures),
-      λ e. stim-refuses (c .before .before .before .before .before .check-stim .result) (c .before .before .before .before .match3 .keys2) (sym (c .stim-answer .ensures) ∙ e),
+    let matched = c .before .before .before .before .before .before in
+    let mod-told = matched .before .before .before .before .before .before .before .before .before in
+    let net-told = mod-told .before .before .before .before .before .before .before .before .before .before in
+    let start = net-told .before .before .before .before .before .before .before .before .before .before .before .before in
+    let net-right = stage-pass _ _ _ _ (net-told .before .before .check-net .ensures) (net-told .enum-told .given .1) in
+    let mod-right = passed _ _ _ _ _ _ (mod-told .before .before .check-mod .ensures) (mod-told .enum-told2 .given .1) in
+    let told = c .before .before .before .before .before .stim-answer .ensures in (
+      told ∙ stim-last _ _ _ net-right _ mod-right (matched .before .check-stim .ensures),
+      (λ e. stim-refuses (matched .before .check-stim .result) (matched .match3 .keys2) (sym told ∙ e), start .pre),
     )
 
 same-length-7 : tie.Need-same-length-7
-same-length-7 c = c .before .before .before .before .before .before .before .before .before .before .before .before .before .before .before .before .before .before .before .before .before .before .before .before .before .before .before .before .before .before .read-file .kept .1 .0
+same-length-7 c =
+    let mod-told = c .before .before .before .before .before .before .before .before .before .before .before .before .before .before .before .before in
+    let net-read = mod-told .before .before .before .before .before .before .before .before .before .before .before .before .before .before .before .before in
+    net-read .read-file .kept .1 .0
 
 same-length-8 : tie.Need-same-length-8
 same-length-8 c = search needs
@@ -203,28 +218,36 @@ slice-reshare-prefix-print-listing : tie.Need-slice-reshare-prefix-print-listing
 slice-reshare-prefix-print-listing c = search needs
 
 slice-aggregate-print-listing : tie.Need-slice-aggregate-print-listing
-slice-aggregate-print-listing c = sym (length-take-le _ _ (c .before .before .before .before .before .before .before .before .before .before .before .before .before .before .before .before .before .before .before .before .before .before .before .before .before .before .before .before .read-file .ensures))
+slice-aggregate-print-listing c = search (needs, prefix-length)
 
 slice-reshare-prefix-print-listing-2 : tie.Need-slice-reshare-prefix-print-listing-2
 slice-reshare-prefix-print-listing-2 c = search needs
 
 slice-aggregate-print-listing-2 : tie.Need-slice-aggregate-print-listing-2
-slice-aggregate-print-listing-2 c = sym (length-take-le _ _ (c .before .before .before .before .before .before .before .before .before .before .before .before .before .before .before .before .before .before .before .before .read-file2 .ensures))
+slice-aggregate-print-listing-2 c = search (needs, prefix-length)
 
 slice-reshare-prefix-print-listing-3 : tie.Need-slice-reshare-prefix-print-listing-3
 slice-reshare-prefix-print-listing-3 c = search needs
 
 slice-aggregate-print-listing-3 : tie.Need-slice-aggregate-print-listing-3
-slice-aggregate-print-listing-3 c = sym (length-take-le _ _ (c .before .before .before .before .before .before .before .before .before .before .before .read-file3 .ensures))
+slice-aggregate-print-listing-3 c = search (needs, prefix-length)
 
 print-listing-requires : tie.Need-print-listing-requires
 print-listing-requires c κs =
-    let net-right = stage-pass _ _ _ _ (c .before .before .before .before .before .before .before .before .before .before .before .before .before .before .before .before .before .before .before .before .before .before .before .before .before .before .check-net .ensures) (c .before .before .before .before .before .before .before .before .before .before .before .before .before .before .before .before .before .before .before .before .before .before .before .before .enum-told .given .1) in
-    let mod-right = passed _ _ _ _ _ _ (c .before .before .before .before .before .before .before .before .before .before .before .before .before .before .before .before .check-mod .ensures) (c .before .before .before .before .before .before .before .before .before .before .before .before .before .before .enum-told2 .given .1) in
-    all-accepted _ _ _ net-right mod-right _ _ (c .before .before .before .before .third .given .1) (c .before .before .before .before .before .before .check-stim .ensures)
+    let lines-told = c .before .before .before .before .before .before in
+    let mod-told = lines-told .before .before .before .before .before .before .before .before .before .before in
+    let net-told = mod-told .before .before .before .before .before .before .before .before .before .before in
+    let start = net-told .before .before .before .before .before .before .before .before .before .before .before .before in
+    let net-right = stage-pass _ _ _ _ (net-told .before .before .check-net .ensures) (net-told .enum-told .given .1) in
+    let mod-right = passed _ _ _ _ _ _ (mod-told .before .before .check-mod .ensures) (mod-told .enum-told2 .given .1) in
+    let all = all-accepted _ _ _ net-right mod-right _ _ (lines-told .third .given .1) (lines-told .before .before .check-stim .ensures) in
+    (all .0, (all .1, start .pre))
 
 same-length-10 : tie.Need-same-length-10
-same-length-10 c = c .before .before .before .before .before .before .before .before .before .before .before .before .before .before .before .before .before .before .before .before .before .before .before .before .before .before .before .before .before .before .before .read-file .kept .1 .0
+same-length-10 c =
+    let mod-told = c .before .before .before .before .before .before .before .before .before .before .before .before .before .before .before .before .before in
+    let net-read = mod-told .before .before .before .before .before .before .before .before .before .before .before .before .before .before .before .before in
+    net-read .read-file .kept .1 .0
 
 same-length-11 : tie.Need-same-length-11
 same-length-11 c = search needs
@@ -245,13 +268,13 @@ run-spec =
     slice-aggregate-check-net
     check-net-requires
     enum-told
+    net-answer-requires
     slice-reshare-prefix-print-refusal
     slice-aggregate-print-refusal
     slice-reshare-prefix-print-refusal-2
     slice-aggregate-print-refusal-2
     slice-reshare-prefix-print-refusal-3
     slice-aggregate-print-refusal-3
-    net-answer-requires
     print-refusal-requires
     same-length
     same-length-2
@@ -265,13 +288,13 @@ run-spec =
     slice-aggregate-check-mod-2
     check-mod-requires
     enum-told-2
+    mod-answer-requires
     slice-reshare-prefix-print-refusal-4
     slice-aggregate-print-refusal-4
     slice-reshare-prefix-print-refusal-5
     slice-aggregate-print-refusal-5
     slice-reshare-prefix-print-refusal-6
     slice-aggregate-print-refusal-6
-    mod-answer-requires
     print-refusal-requires-2
     same-length-4
     same-length-5
@@ -285,13 +308,13 @@ run-spec =
     slice-aggregate-check-stim-2
     check-stim-requires
     enum-known-third
+    stim-answer-requires
     slice-reshare-prefix-print-refusal-7
     slice-aggregate-print-refusal-7
     slice-reshare-prefix-print-refusal-8
     slice-aggregate-print-refusal-8
     slice-reshare-prefix-print-refusal-9
     slice-aggregate-print-refusal-9
-    stim-answer-requires
     print-refusal-requires-3
     same-length-7
     same-length-8

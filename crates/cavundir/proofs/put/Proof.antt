@@ -1,0 +1,28 @@
+-- The parts are few, so that their count fits; a write that fails is told and not counted.
+use mathlib.Core.Path.{sym, ap}
+use native.Mathlib.Omega.{arith}
+use denote.Ref.{now}
+use borrow.Author.Needs.{needs}
+use Rattle.cavundir.specs.Handing.{partsAfter}
+use Rattle.cavundir.proofs.Printing.{parts-few}
+use Rattle.cavundir.proofs.put.Statement.{statement}
+use Rattle.cavundir.proofs.put.Tie as tie
+
+write-all-requires : tie.Need-write-all-requires
+write-all-requires c κs = search needs
+
+add-parts : tie.Need-add-parts
+add-parts c =
+    let s = c .before .before .before .before .before .before .before in
+    record { fits = omega (arith, parts-few _ _ (s .pre .1 .0)) }
+
+returns : tie.Need-returns
+returns c =
+    let s = c .before .before .before .before .before .before .before in
+    sym (ap (partsAfter (now (s .args .parts))) (s .pre .1 .1))
+
+returns-2 : tie.Need-returns-2
+returns-2 c = search needs
+
+pub put-spec : {M : Type 1} → statement M
+put-spec = tie.close (tie.spec write-all-requires add-parts returns returns-2)
