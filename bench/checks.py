@@ -40,7 +40,7 @@ def rows():
         yield name, (generate.text(network), b"", b""), refusal or (20, 1)
 
 
-check = library.check_files(ctypes.CDLL(sys.argv[1]) if len(sys.argv) > 1 else library.load("checks"))
+check = library.check_files(ctypes.CDLL(sys.argv[1]) if len(sys.argv) > 1 else library.load("file_checks"))
 wrong = 0
 print(f"{'ms':>9}  answer    files")
 for name, files, expected in rows():

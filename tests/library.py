@@ -90,11 +90,11 @@ def check_files(library):
 
 
 def session_archives():
-    """The archives with the panel's calls: that of `session`, and that of `opening` if the first has no opening."""
-    archives = [archive("session")]
+    """The archives with the panel's calls: that of `session_calls`, and that of `session_opening` if the first has no opening."""
+    archives = [archive("session_calls")]
     symbols = subprocess.run(["nm", "-g", "--defined-only", archives[0]], capture_output=True, text=True).stdout
     if "cavundir_open" not in symbols.split():
-        archives.append(archive("opening"))
+        archives.append(archive("session_opening"))
     return archives
 
 

@@ -8,26 +8,26 @@ use denote.Enum.Declared.{tagOf}
 use types.Run.{OneOf}
 use Rattle.model.specs.Refusal.{pass}
 use Rattle.model.specs.Netlist.{network, netCheck}
-use Rattle.model.specs.Schedule.{modCheck}
+use Rattle.model.specs.ModuleFile.{modCheck}
 use Rattle.model.specs.Stimulus.{stimCount}
 use Rattle.model.specs.Acceptance.{panelLimit, fileCheck, Accepted}
 use Rattle.model.proofs.Refusals.{pass-not-fail, first-second}
-use Rattle.schedule.specs.declared.ModAnswer.{ModAnswer}
-use Rattle.schedule.specs.declared.ModAnswer.the-variants.{Accepted as Sized, Misformed, Layout, Placement, Send, Reception, WrongOperand}
-use Rattle.schedule.specs.Answer.{modRefusal}
-use Rattle.stimulus.specs.declared.StimAnswer.{StimAnswer}
-use Rattle.stimulus.specs.declared.StimAnswer.the-variants.{Accepted as Counted, Misformed as StimMisformed, Layout as StimLayout, NotInput}
-use Rattle.stimulus.specs.Answer.{stimRefusal, Answers}
-use Rattle.stimulus.proofs.StimAnswer.{the-type}
-use Rattle.stimulus.proofs.Steps.{accepted-passes}
+use Rattle.file_mod_lines.specs.declared.ModAnswer.{ModAnswer}
+use Rattle.file_mod_lines.specs.declared.ModAnswer.the-variants.{Accepted as Sized, Misformed, Layout, Placement, Send, Reception, WrongOperand}
+use Rattle.file_mod_lines.specs.Answer.{modRefusal}
+use Rattle.file_stim.specs.declared.StimAnswer.{StimAnswer}
+use Rattle.file_stim.specs.declared.StimAnswer.the-variants.{Accepted as Counted, Misformed as StimMisformed, Layout as StimLayout, NotInput}
+use Rattle.file_stim.specs.Answer.{stimRefusal, Answers}
+use Rattle.file_stim.proofs.StimAnswer.{the-type}
+use Rattle.file_stim.proofs.Steps.{accepted-passes}
 
-pub all-accepted : (net table stim : List ℕ) → netCheck 4096 net ≡ pass → modCheck (network net) table ≡ pass
+pub all-accepted : (net modfile stim : List ℕ) → netCheck 4096 net ≡ pass → modCheck (network net) modfile ≡ pass
     → (r : StimAnswer) (lines : ℕ) → r ≡ Counted lines → Answers (network net) stim r
-    → Accepted panelLimit (record { NET = net; MOD = table; STIM = stim }) × (lines ≡ stimCount stim)
+    → Accepted panelLimit (record { NET = net; MOD = modfile; STIM = stim }) × (lines ≡ stimCount stim)
 unfolding fileCheck
-all-accepted net table stim n m r lines e answers =
+all-accepted net modfile stim n m r lines e answers =
     let told = accepted-passes (network net) stim lines (subst (λ (x : StimAnswer). Answers (network net) stim x) e answers) in
-    (first-second (netCheck 4096 net) _ n ∙ first-second (modCheck (network net) table) _ m ∙ told .0, told .1)
+    (first-second (netCheck 4096 net) _ n ∙ first-second (modCheck (network net) modfile) _ m ∙ told .0, told .1)
 
 pub mod-refuses : (r : ModAnswer) → ((p c : ℕ) → r ≡ Sized p c → ⊥) → modRefusal r ≡ pass → ⊥
 mod-refuses (Sized p c) other e = other p c refl

@@ -9,8 +9,8 @@ use lib.Seq.{sets, sets-eq, length-sets, take-append-seam}
 use Rattle.model.specs.Refusal.{Check, pass, fail}
 use Rattle.model.specs.Files.{Files}
 use Rattle.model.specs.Acceptance.{panelLimit, fileCheck, Accepted}
-use Rattle.checks.specs.declared.FileAnswer.{FileAnswer}
-use Rattle.checks.specs.Answer.{fileRefusal}
+use Rattle.file_checks.specs.declared.FileAnswer.{FileAnswer}
+use Rattle.file_checks.specs.Answer.{fileRefusal}
 use Rattle.listing.specs.declared.Lister.{Lister}
 use Rattle.listing.specs.declared.Piece.{Piece}
 use Rattle.listing.specs.Changes.{pieceLength}

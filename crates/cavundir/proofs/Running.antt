@@ -13,7 +13,7 @@ use borrow.Fn.Kinds.{Dens, resT, endedOf}
 use Rattle.model.specs.Refusal.{Check, pass, fail}
 use Rattle.model.specs.Files.{Files}
 use Rattle.model.specs.Netlist.{network, netCheck}
-use Rattle.model.specs.Schedule.{modCheck}
+use Rattle.model.specs.ModuleFile.{modCheck}
 use Rattle.model.specs.Acceptance.{panelLimit, networkOf, fileCheck}
 use Rattle.model.specs.Listing.{joined, printed}
 use Rattle.model.proofs.Refusals.{first-stays, first-second}
@@ -43,12 +43,12 @@ module _ {files read : Files} (from : ReadFrom files read) where
 
   module _ (net-right : netCheck panelLimit (read .NET) ≡ pass) where
     same-mod : modCheck (networkOf read) (read .MOD) ≡ modCheck (networkOf first-bytes) (first-bytes .MOD)
-    same-mod = ap (λ (x : List ℕ). modCheck (network x) (read .MOD)) (from .net) ∙ ap (modCheck (networkOf first-bytes)) (from .table net-right)
+    same-mod = ap (λ (x : List ℕ). modCheck (network x) (read .MOD)) (from .net) ∙ ap (modCheck (networkOf first-bytes)) (from .modfile net-right)
 
     same-files : modCheck (networkOf read) (read .MOD) ≡ pass → read ≡ first-bytes
     same-files mod-right =
         ap (λ (x : List ℕ). filesOf x (read .MOD) (read .STIM)) (from .net)
-        ∙ ap (λ (x : List ℕ). filesOf (first-bytes .NET) x (read .STIM)) (from .table net-right)
+        ∙ ap (λ (x : List ℕ). filesOf (first-bytes .NET) x (read .STIM)) (from .modfile net-right)
         ∙ ap (filesOf (first-bytes .NET) (first-bytes .MOD)) (from .stim net-right mod-right)
 
     mod-judged : (c : Check) → modCheck (networkOf read) (read .MOD) ≡ c → SameParts read first-bytes
@@ -81,7 +81,7 @@ module _ {files read : Files} (from : ReadFrom files read) where
 -- for the files that it read, and where a write failed they are the beginning
 module _ (κs : Lfts 5) (a : Dens κs run-ps) (r : resT run-r κs .Denot) (left : AtExit (endedOf 5 run-ps run-r) κs) (told : RunTells κs a r left) where
   abbrev bytes-read : Files
-  bytes-read = filesOf (take (r .net) (now (left .0))) (take (r .table) (now (left .1 .0))) (take (r .stim) (now (left .1 .1 .0)))
+  bytes-read = filesOf (take (r .net) (now (left .0))) (take (r .modfile) (now (left .1 .0))) (take (r .stim) (now (left .1 .1 .0)))
 
   abbrev parts-written : List ℕ
   parts-written = joined (now (left .1 .1 .1 .0)) (partAt bytes-read)

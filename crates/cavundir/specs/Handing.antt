@@ -7,7 +7,7 @@ use mathlib.Core.List.{List}
 use Rattle.model.specs.Refusal.{Check, pass, fail}
 use Rattle.model.specs.Files.{Files}
 use Rattle.model.specs.Netlist.{netCheck}
-use Rattle.model.specs.Schedule.{modCheck}
+use Rattle.model.specs.ModuleFile.{modCheck}
 use Rattle.model.specs.Acceptance.{panelLimit, networkOf, fileCheck}
 use Rattle.model.specs.Listing.{joined, refusalLine}
 use Rattle.listing.specs.Pieces.{pieceCount, pieceAt}
@@ -15,7 +15,7 @@ use Rattle.listing.specs.Printing.{firstBytes}
 
 -- the three files, by their bytes
 abbrev pub filesOf : List ℕ → List ℕ → List ℕ → Files
-filesOf net table stim = record { NET = net; MOD = table; STIM = stim }
+filesOf net modfile stim = record { NET = net; MOD = modfile; STIM = stim }
 
 unfoldable pub partFor : Check → Files → ℕ → List ℕ
 partFor pass files k = pieceAt files k
@@ -45,7 +45,7 @@ pub record Handing (files : Files) (parts : ℕ) (failed : Bool) : Type 0 where
 -- What was read of whole files: the first bytes of each, up to the first one that is refused; those after it are not read
 pub record ReadFrom (files read : Files) : Type 0 where
   pub net : read .NET ≡ firstBytes files .NET
-  pub table : netCheck panelLimit (read .NET) ≡ pass → read .MOD ≡ firstBytes files .MOD
+  pub modfile : netCheck panelLimit (read .NET) ≡ pass → read .MOD ≡ firstBytes files .MOD
   pub stim : netCheck panelLimit (read .NET) ≡ pass → modCheck (networkOf read) (read .MOD) ≡ pass → read .STIM ≡ firstBytes files .STIM
 
 -- A text that the program writes for whole files, of which it reads the first bytes, where no write fails: the parts written, in order

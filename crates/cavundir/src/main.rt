@@ -8,14 +8,14 @@ ghost use lib.ListN.{length, take};
 ghost use Rattle.model.specs.Refusal.{pass};
 ghost use Rattle.model.specs.Acceptance.{panelLimit, fileCheck, Accepted};
 ghost use Rattle.model.specs.Stimulus.{stimCount};
-ghost use Rattle.checks.specs.Answer.{fileRefusal};
+ghost use Rattle.file_checks.specs.Answer.{fileRefusal};
 ghost use Rattle.cavundir.specs.Got.{Brought};
 ghost use Rattle.cavundir.specs.Handing.{filesOf, partAt, partCount, partsAfter, Handing};
-use checks::FileAnswer;
+use file_checks::FileAnswer;
+use file_mod_lines::ModAnswer;
+use file_net::NetAnswer;
+use file_stim::StimAnswer;
 use libc::STDOUT_FILENO;
-use netlist::NetAnswer;
-use schedule::ModAnswer;
-use stimulus::StimAnswer;
 
 // The buffers. A file is read up to one byte more than it may have: such a byte is surplus, whatever follows it.
 fn net_buffer() -> [u8; 299082] {
@@ -105,9 +105,9 @@ fn read_file(name: &[u8], bytes: &mut [u8]) -> usize
 
 // The one writer. It is lent the bytes read of each file and takes the next part of what is printed for them, no other; it counts a
 // part that was written and tells one that could not be. It counts behind a reference, since a number could be handed over twice.
-fn put(net: &[u8], table: &[u8], stim: &[u8], part: &[u8], parts: &mut u32, failed: &mut bool)
-    requires { ⌜ now part ≡ partAt (filesOf (now net) (now table) (now stim)) (now parts) ⌝ }
-    requires { ⌜ now parts < partCount (filesOf (now net) (now table) (now stim)) ⌝ }
+fn put(net: &[u8], modfile: &[u8], stim: &[u8], part: &[u8], parts: &mut u32, failed: &mut bool)
+    requires { ⌜ now part ≡ partAt (filesOf (now net) (now modfile) (now stim)) (now parts) ⌝ }
+    requires { ⌜ now parts < partCount (filesOf (now net) (now modfile) (now stim)) ⌝ }
     requires { ⌜ now failed ≡ false ⌝ }
     ensures counted { λ _. ⌜ now (parts .exit) ≡ partsAfter (now (parts .entry)) (now (failed .exit)) ⌝ }
 {
@@ -121,37 +121,37 @@ fn put(net: &[u8], table: &[u8], stim: &[u8], part: &[u8], parts: &mut u32, fail
 // "prints one line of two fields, number and returned value".
 fn print_refusal(
     net: &[u8],
-    table: &[u8],
+    modfile: &[u8],
     stim: &[u8],
     answer: FileAnswer,
     parts: &mut u32,
     failed: &mut bool,
 )
-    requires { ⌜ fileRefusal answer ≡ fileCheck panelLimit (filesOf (now net) (now table) (now stim)) ⌝ }
+    requires { ⌜ fileRefusal answer ≡ fileCheck panelLimit (filesOf (now net) (now modfile) (now stim)) ⌝ }
     requires { ⌜ (fileRefusal answer ≡ pass → ⊥) ⌝ }
     requires { ⌜ now parts ≡ 0 ⌝ }
     requires { ⌜ now failed ≡ false ⌝ }
-    ensures handed { λ _. ⌜ Handing (filesOf (now (net .entry)) (now (table .entry)) (now (stim .entry))) (now (parts .exit)) (now (failed .exit)) ⌝ }
+    ensures handed { λ _. ⌜ Handing (filesOf (now (net .entry)) (now (modfile .entry)) (now (stim .entry))) (now (parts .exit)) (now (failed .exit)) ⌝ }
 {
     let mut line = [0u8; 13];
     let length = listing::write_refusal(answer, &mut line);
-    put(net, table, stim, &line[..length], parts, failed);
+    put(net, modfile, stim, &line[..length], parts, failed);
 }
 
 // The listing, piece by piece, until one can not be written.
 fn print_listing(
     net: &[u8],
-    table: &[u8],
+    modfile: &[u8],
     stim: &[u8],
     lines: u16,
     parts: &mut u32,
     failed: &mut bool,
 )
-    requires { ⌜ Accepted panelLimit (filesOf (now net) (now table) (now stim)) ⌝ }
+    requires { ⌜ Accepted panelLimit (filesOf (now net) (now modfile) (now stim)) ⌝ }
     requires { ⌜ lines ≡ stimCount (now stim) ⌝ }
     requires { ⌜ now parts ≡ 0 ⌝ }
     requires { ⌜ now failed ≡ false ⌝ }
-    ensures handed { λ _. ⌜ Handing (filesOf (now (net .entry)) (now (table .entry)) (now (stim .entry))) (now (parts .exit)) (now (failed .exit)) ⌝ }
+    ensures handed { λ _. ⌜ Handing (filesOf (now (net .entry)) (now (modfile .entry)) (now (stim .entry))) (now (parts .exit)) (now (failed .exit)) ⌝ }
 {
     let mut panel = panel_buffer();
     let mut program = program_buffer();
@@ -160,7 +160,7 @@ fn print_listing(
     let mut piece = piece_buffer();
     let mut lister = listing::open(
         net,
-        table,
+        modfile,
         stim,
         lines,
         &mut panel,
@@ -178,7 +178,7 @@ fn print_listing(
             &mut shown,
             &mut piece,
         );
-        put(net, table, stim, &piece[..next.length], parts, failed);
+        put(net, modfile, stim, &piece[..next.length], parts, failed);
         if *failed {
             return;
         }
@@ -189,68 +189,68 @@ fn print_listing(
 // How many bytes were read of each file.
 struct Read {
     net: usize,
-    table: usize,
+    modfile: usize,
     stim: usize,
 }
 
 // "Order: NET, MOD, STIM": each is checked before the next is read.
 fn run(
     net: &mut [u8],
-    table: &mut [u8],
+    modfile: &mut [u8],
     stim: &mut [u8],
     parts: &mut u32,
     failed: &mut bool,
 ) -> Read
     requires { ⌜ now parts ≡ 0 ⌝ }
     requires { ⌜ now failed ≡ false ⌝ }
-    ensures handed { λ r. ⌜ Handing (filesOf (take (r .net) (now (net .exit))) (take (r .table) (now (table .exit))) (take (r .stim) (now (stim .exit)))) (now (parts .exit)) (now (failed .exit)) ⌝ }
+    ensures handed { λ r. ⌜ Handing (filesOf (take (r .net) (now (net .exit))) (take (r .modfile) (now (modfile .exit))) (take (r .stim) (now (stim .exit)))) (now (parts .exit)) (now (failed .exit)) ⌝ }
 {
     let n = read_file(b"NET", net);
-    let first = netlist::check_net(&net[..n], 4096);
+    let first = file_net::check_net(&net[..n], 4096);
     let NetAnswer::Accepted(_) = first else {
-        let answer = checks::net_answer(first);
-        print_refusal(&net[..n], &table[..0], &stim[..0], answer, parts, failed);
+        let answer = file_checks::net_answer(first);
+        print_refusal(&net[..n], &modfile[..0], &stim[..0], answer, parts, failed);
         return Read {
             net: n,
-            table: 0,
+            modfile: 0,
             stim: 0,
         };
     };
-    let m = read_file(b"MOD", table);
-    let second = wiring::check_mod(&net[..n], &table[..m]);
+    let m = read_file(b"MOD", modfile);
+    let second = file_mod::check_mod(&net[..n], &modfile[..m]);
     let ModAnswer::Accepted(_, _) = second else {
-        let answer = checks::mod_answer(second);
-        print_refusal(&net[..n], &table[..m], &stim[..0], answer, parts, failed);
+        let answer = file_checks::mod_answer(second);
+        print_refusal(&net[..n], &modfile[..m], &stim[..0], answer, parts, failed);
         return Read {
             net: n,
-            table: m,
+            modfile: m,
             stim: 0,
         };
     };
     let k = read_file(b"STIM", stim);
-    let third = stimulus::check_stim(&net[..n], &stim[..k]);
+    let third = file_stim::check_stim(&net[..n], &stim[..k]);
     let StimAnswer::Accepted(lines) = third else {
-        let answer = checks::stim_answer(third);
-        print_refusal(&net[..n], &table[..m], &stim[..k], answer, parts, failed);
+        let answer = file_checks::stim_answer(third);
+        print_refusal(&net[..n], &modfile[..m], &stim[..k], answer, parts, failed);
         return Read {
             net: n,
-            table: m,
+            modfile: m,
             stim: k,
         };
     };
-    print_listing(&net[..n], &table[..m], &stim[..k], lines, parts, failed);
+    print_listing(&net[..n], &modfile[..m], &stim[..k], lines, parts, failed);
     Read {
         net: n,
-        table: m,
+        modfile: m,
         stim: k,
     }
 }
 
 fn main() {
     let mut net = net_buffer();
-    let mut table = mod_buffer();
+    let mut modfile = mod_buffer();
     let mut stim = stim_buffer();
     let mut parts: u32 = 0;
     let mut failed = false;
-    run(&mut net, &mut table, &mut stim, &mut parts, &mut failed);
+    run(&mut net, &mut modfile, &mut stim, &mut parts, &mut failed);
 }

@@ -17,16 +17,16 @@ use Rattle.fields.specs.declared.Field.the-variants.{Number, Misformed}
 use Rattle.fields.specs.declared.Line.the-variants.{Next, Broken}
 
 -- what the answer of a field tells
-pub record Right (l : List ℕ) (at n next : ℕ) : Type 0 where
+pub record LineRight (l : List ℕ) (at n next : ℕ) : Type 0 where
   pub form : isFieldAt l at ≡ true
   pub is : numberAt l at ≡ n
   pub after : next ≡ at + 6
 
-pub field-right : (l : List ℕ) (at n next : ℕ) → readField l at ≡ Number n next → Right l at n next
+pub field-right : (l : List ℕ) (at n next : ℕ) → readField l at ≡ Number n next → LineRight l at n next
 unfolding readField
 field-right l at n next e = go (isFieldAt l at) refl e
   where
-    go : (b : Bool) → isFieldAt l at ≡ b → (if b then Number (numberAt l at) (at + 6) else Misformed) ≡ Number n next → Right l at n next
+    go : (b : Bool) → isFieldAt l at ≡ b → (if b then Number (numberAt l at) (at + 6) else Misformed) ≡ Number n next → LineRight l at n next
     go true f q = record { form = f; is = cc; after = cc }
     go false f q = absurd (let z : _≡_ {A = ℕ} 0 1 = cc in omega arith)
 

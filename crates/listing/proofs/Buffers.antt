@@ -17,9 +17,9 @@ use Rattle.model.specs.Network.{Network, Signal, isSignal}
 use Rattle.model.specs.Value.{start, history}
 use Rattle.model.specs.Module.{Module}
 use Rattle.model.specs.Machine.{Memory, cycle, opening, after}
-use Rattle.model.specs.Schedule.{moduleOf}
+use Rattle.model.specs.ModuleFile.{moduleOf}
 use Rattle.model.specs.Stimulus.{held, endTime}
-use Rattle.model.specs.Acceptance.{panelLimit, networkOf, scheduleOf, givenOf, Accepted}
+use Rattle.model.specs.Acceptance.{panelLimit, networkOf, moduleOfFiles, givenOf, Accepted}
 use Rattle.model.specs.Session.{Head, Watch}
 use Rattle.model.specs.Listing.{valueAt}
 use Rattle.model.proofs.Chains.{signal-true, signal-test}
@@ -27,21 +27,21 @@ use Rattle.model.proofs.Machine.{Near, near-refl, cycle-rows, cycle-near}
 use Rattle.model.proofs.Keeping.{machine-holds-VAL}
 use Rattle.model.proofs.Accepted.{net-accepted, mod-accepted}
 use Rattle.model.proofs.Demands.{accepted-formed, accepted-acyclic, accepted-scheduled}
-use Rattle.memory.specs.Memory.{memoryLength, memoryOf, within}
-use Rattle.memory.specs.Memory.{held as heldIn}
-use Rattle.memory.proofs.Written.{written-same}
-use Rattle.memory.proofs.Near.{agree-near, held-near, held-step}
-use Rattle.tables.specs.Panel.{panelLength, signalsIn, handIn}
-use Rattle.tables.specs.Tables.{networkIn}
-use Rattle.tables.specs.Holding.{Holding}
-use Rattle.machine.specs.Running.{cycleIn}
-use Rattle.loading.specs.Loaded.{panelOf, programOf}
-use Rattle.loading.proofs.Loaded.{loaded-tables, loaded-holding, loaded-network, loaded-head}
-use Rattle.engine.proofs.Same.{cycle-same, near-trans}
-use Rattle.engine.proofs.Valued.{processors-few, slots-few}
-use Rattle.header.specs.Header.{headBytes, headByte, withHead}
-use Rattle.kept.proofs.Heads.{session-byte, with-head-hand, with-head-column}
-use Rattle.kept.proofs.Holding.{signal-high, with-head-holding}
+use Rattle.buffers_memory.specs.Memory.{memoryLength, memoryOf, within}
+use Rattle.buffers_memory.specs.Memory.{withMemory}
+use Rattle.buffers_memory.proofs.Written.{written-same}
+use Rattle.buffers_memory.proofs.Near.{agree-near, with-memory-near, with-memory-step}
+use Rattle.buffers_tables.specs.Panel.{panelLength, signalsIn, handIn}
+use Rattle.buffers_tables.specs.Tables.{networkIn}
+use Rattle.buffers_tables.specs.Holding.{Holding}
+use Rattle.machine_run.specs.Running.{cycleIn}
+use Rattle.buffers_load.specs.Loaded.{panelOf, programOf}
+use Rattle.buffers_load.proofs.Loaded.{loaded-tables, loaded-holding, loaded-network, loaded-head}
+use Rattle.laws_values.proofs.Same.{cycle-same, near-trans}
+use Rattle.laws_values.proofs.Valued.{processors-few, slots-few}
+use Rattle.session_state.specs.Header.{headBytes, headByte, withHead}
+use Rattle.laws_kept.proofs.Heads.{session-byte, with-head-hand, with-head-column}
+use Rattle.laws_kept.proofs.Holding.{signal-high, with-head-holding}
 use Rattle.listing.specs.Changes.{shownLength, notShown, valueHeld, shownWith}
 use Rattle.listing.specs.Buffers.{cyclesAfter, handAt, panelAt, memoryAt, shownAt, shownAfter}
 
@@ -94,7 +94,7 @@ module _ (files : Files) where
   n = networkOf files
 
   abbrev m : Module
-  m = scheduleOf files
+  m = moduleOfFiles files
 
   abbrev stim : List ℕ
   stim = files .STIM
@@ -187,7 +187,7 @@ module _ (files : Files) where
     places-hold panel program holding t s g =
         let there = holding .places s g in
         let w = after n m (opening m (start n (givenOf files))) (history (held stim) t) in
-        held-near m (processors-few files accepted) (slots-few files accepted) w (listed memoryLength (λ a. 0)) .earlierLocal _ _ (there .at)
+        with-memory-near m (processors-few files accepted) (slots-few files accepted) w (listed memoryLength (λ a. 0)) .earlierLocal _ _ (there .at)
         ∙ machine-holds-VAL (accepted-formed panelLimit files accepted) (accepted-acyclic panelLimit files accepted) (accepted-scheduled panelLimit files accepted)
         (givenOf files) (history (held stim) t) s _ _ g (there .at) (there .is)
 
@@ -201,12 +201,12 @@ module _ (files : Files) where
         (cycle-rows laid (handIn (panelAt files t)) (held stim t) (λ s g i. panel-hand t s g) near-refl)
 
     pub memory-next : (t : ℕ) (memory left : List ℕ) → memory ≡ memoryAt files t
-        → left ≡ heldIn (m .processors) (m .slots) (cycleIn (panelAt files (suc t)) program (memoryOf memory)) memory
+        → left ≡ withMemory (m .processors) (m .slots) (cycleIn (panelAt files (suc t)) program (memoryOf memory)) memory
         → left ≡ memoryAt files (suc t)
     unfolding memoryAt moduleOf after history
     memory-next t memory left is e =
         let laid = accepted-scheduled panelLimit files accepted .laid in
-        held-step m (processors-few files accepted) (slots-few files accepted) (cycle n m (held stim (suc t))) (λ w u. cycle-near laid (held stim (suc t)))
+        with-memory-step m (processors-few files accepted) (slots-few files accepted) (cycle n m (held stim (suc t))) (λ w u. cycle-near laid (held stim (suc t)))
         (after n m (opening m (start n (givenOf files))) (history (held stim) t)) (listed memoryLength (λ a. 0)) memory left is
         (e ∙ written-same (within (m .processors) (m .slots)) _ _ memory (agree-near m _ _ (cycle-is (suc t) (memoryOf memory))))
 

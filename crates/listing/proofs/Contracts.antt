@@ -10,8 +10,8 @@ use denote.Ref.{now}
 use denote.Triple.Clauses.{AtExit}
 use borrow.Fn.Kinds.{Dens, resT, endedOf}
 use Rattle.model.specs.Files.{Files}
-use Rattle.tables.specs.declared.Cycle.{Cycle}
-use Rattle.checks.specs.Answer.{fileRefusal}
+use Rattle.buffers_tables.specs.declared.Cycle.{Cycle}
+use Rattle.file_checks.specs.Answer.{fileRefusal}
 use Rattle.listing.specs.declared.Lister.{Lister}
 use Rattle.listing.specs.Changes.{pieceLength}
 use Rattle.listing.specs.Refused.{refusedText}

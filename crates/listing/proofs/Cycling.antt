@@ -9,22 +9,22 @@ use Rattle.model.specs.Machine.{Memory}
 use Rattle.model.specs.Session.{Head, run, ran, Run, Outcome, watched, runs, unlessStopped, ticks}
 use Rattle.model.specs.Network.{Signal}
 use Rattle.model.proofs.Machine.{Small}
-use Rattle.memory.specs.Memory.{memoryOf, held, MemoryBytes}
-use Rattle.memory.proofs.Written.{written-length}
-use Rattle.tables.specs.Panel.{processorsIn, slotsIn, maskIn, handIn}
-use Rattle.tables.specs.Tables.{networkIn, moduleIn, Tables}
-use Rattle.ranges.specs.Ranges.{ranged}
-use Rattle.ranges.proofs.Ranged.{Values, is-ranged, panel-in-range, program-in-range, memory-in-range, ranged-tables, ranged-memory}
-use Rattle.machine.specs.Running.{cycleIn, runIn, Watching}
-use Rattle.header.specs.declared.Told.{Told}
-use Rattle.header.specs.Header.{headIn, headOf, withHead}
-use Rattle.header.specs.Commands.{commanded, Tells}
-use Rattle.header.proofs.Running.{run-done}
-use Rattle.session.proofs.Watched.{ranged-watching}
-use Rattle.kept.proofs.Heads.{with-head-length, with-head-processors, with-head-slots, with-head-mask}
-use Rattle.kept.proofs.Memories.{small-in, ticks-small, held-values}
-use Rattle.kept.proofs.Sound.{head-again, with-head-ranged}
-use Rattle.listing.specs.Cycling.{Right, Ready, cycled}
+use Rattle.buffers_memory.specs.Memory.{memoryOf, withMemory, MemoryBytes}
+use Rattle.buffers_memory.proofs.Written.{written-length}
+use Rattle.buffers_tables.specs.Panel.{processorsIn, slotsIn, maskIn, handIn}
+use Rattle.buffers_tables.specs.Tables.{networkIn, moduleIn, Tables}
+use Rattle.buffers_range.specs.Ranges.{ranged}
+use Rattle.buffers_range.proofs.Ranged.{Values, is-ranged, panel-in-range, program-in-range, memory-in-range, ranged-tables, ranged-memory}
+use Rattle.machine_run.specs.Running.{cycleIn, runIn, Watching}
+use Rattle.session_state.specs.declared.Told.{Told}
+use Rattle.session_state.specs.Header.{headIn, headOf, withHead}
+use Rattle.session_state.specs.Commands.{commanded, Tells}
+use Rattle.session_state.proofs.Running.{run-done}
+use Rattle.session_calls.proofs.Watched.{ranged-watching}
+use Rattle.laws_kept.proofs.Heads.{with-head-length, with-head-processors, with-head-slots, with-head-mask}
+use Rattle.laws_kept.proofs.Memories.{small-in, ticks-small, with-memory-values}
+use Rattle.laws_kept.proofs.Sound.{head-again, with-head-ranged}
+use Rattle.listing.specs.Cycling.{RightBuffers, Ready, cycled}
 
 -- mask 0 has no bit
 watches-none : (mask v : ℕ) → mask ≡ 0 → watched mask v ≡ false
@@ -65,15 +65,15 @@ module _ (h : Head) (panel program memory : List ℕ) (ready : Ready h panel pro
 
   -- what the command leaves, the panel being as the session was written into it
   pub cycle-left : (panel′ memory′ : List ℕ) (told : Told) → panel′ ≡ fresh → Tells (commanded panel′ program memory h (run 1)) told
-      → memory′ ≡ held (processorsIn panel′) (slotsIn panel′) (commanded panel′ program memory h (run 1) .state) memory
+      → memory′ ≡ withMemory (processorsIn panel′) (slotsIn panel′) (commanded panel′ program memory h (run 1) .state) memory
       → (headOf (told .session) ≡ cycled h)
-      × (memory′ ≡ held (processorsIn panel) (slotsIn panel) (cycleIn fresh program (memoryOf memory)) memory)
+      × (memory′ ≡ withMemory (processorsIn panel) (slotsIn panel) (cycleIn fresh program (memoryOf memory)) memory)
   cycle-left panel′ memory′ told e tells left = (
     tells .head ∙ ap (λ (o : Outcome Memory). o .head) done,
-    left ∙ ap (λ (o : Outcome Memory). held (processorsIn panel′) (slotsIn panel′) (o .state) memory) done
-        ∙ ap (λ (l : List ℕ). held (processorsIn l) (slotsIn l) (cycleIn fresh program (memoryOf memory)) memory) e
-        ∙ ap (λ (p : ℕ). held p (slotsIn fresh) (cycleIn fresh program (memoryOf memory)) memory) (with-head-processors h panel)
-        ∙ ap (λ (k : ℕ). held (processorsIn panel) k (cycleIn fresh program (memoryOf memory)) memory) (with-head-slots h panel),
+    left ∙ ap (λ (o : Outcome Memory). withMemory (processorsIn panel′) (slotsIn panel′) (o .state) memory) done
+        ∙ ap (λ (l : List ℕ). withMemory (processorsIn l) (slotsIn l) (cycleIn fresh program (memoryOf memory)) memory) e
+        ∙ ap (λ (p : ℕ). withMemory p (slotsIn fresh) (cycleIn fresh program (memoryOf memory)) memory) (with-head-processors h panel)
+        ∙ ap (λ (k : ℕ). withMemory (processorsIn panel) k (cycleIn fresh program (memoryOf memory)) memory) (with-head-slots h panel),
   )
     where
       done : commanded panel′ program memory h (run 1) ≡ record { answer = ran 1 false; head = cycled h; state = cycleIn fresh program (memoryOf memory) }
@@ -88,8 +88,8 @@ module _ (h : Head) (panel program memory : List ℕ) (ready : Ready h panel pro
   small = ticks-small fresh program (fresh-tables .laid) (handIn fresh) codes 1 (memoryOf memory) (small-in fresh program memory in-range)
 
   -- the buffers after it are right, and so is the session's head over them
-  pub cycle-right : (memory′ : List ℕ) → memory′ ≡ held (processorsIn panel) (slotsIn panel) (cycleIn fresh program (memoryOf memory)) memory
-      → Right fresh program memory′
+  pub cycle-right : (memory′ : List ℕ) → memory′ ≡ withMemory (processorsIn panel) (slotsIn panel) (cycleIn fresh program (memoryOf memory)) memory
+      → RightBuffers fresh program memory′
   cycle-right memory′ e =
       record {
         sizes = record { panel-size = with-head-length h panel; program-size = ready .right .sizes .program-size; memory-size = rw e (written-length _ _ memory) };
@@ -100,6 +100,6 @@ module _ (h : Head) (panel program memory : List ℕ) (ready : Ready h panel pro
       values =
           subst (λ (l : List ℕ). Values fresh l)
           (sym (e ∙ sym (
-          ap (λ (p : ℕ). held p (slotsIn fresh) (cycleIn fresh program (memoryOf memory)) memory) (with-head-processors h panel)
-          ∙ ap (λ (k : ℕ). held (processorsIn panel) k (cycleIn fresh program (memoryOf memory)) memory) (with-head-slots h panel))))
-          (held-values fresh program memory (cycleIn fresh program (memoryOf memory)) small (memory-in-range fresh program memory in-range))
+          ap (λ (p : ℕ). withMemory p (slotsIn fresh) (cycleIn fresh program (memoryOf memory)) memory) (with-head-processors h panel)
+          ∙ ap (λ (k : ℕ). withMemory (processorsIn panel) k (cycleIn fresh program (memoryOf memory)) memory) (with-head-slots h panel))))
+          (with-memory-values fresh program memory (cycleIn fresh program (memoryOf memory)) small (memory-in-range fresh program memory in-range))

@@ -16,13 +16,13 @@ use Rattle.model.specs.Machine.{Memory}
 use Rattle.model.specs.Stimulus.{stimTime, stimSignal, stimCheck, stimCount, lastGiven}
 use Rattle.model.specs.Session.{Head, set, replaced, Outcome, done}
 use Rattle.model.proofs.Accepted.{stim-right, times-rise}
-use Rattle.tables.specs.Panel.{signalsIn}
-use Rattle.header.specs.Commands.{inputIn, withValue, commanded}
-use Rattle.header.proofs.Commands.{input-signal, signal-low, signal-high, set-no-signal, set-no-value, set-done}
-use Rattle.kept.proofs.Sound.{Sound, with-value-sound}
-use Rattle.stimulus.specs.declared.Cursor.{Cursor}
-use Rattle.stimulus.proofs.Steps.{GivenAt}
-use Rattle.listing.specs.Feeding.{Passed, Feeds, InHand, Fed}
+use Rattle.buffers_tables.specs.Panel.{signalsIn}
+use Rattle.session_state.specs.Commands.{inputIn, withValue, commanded}
+use Rattle.session_state.proofs.Commands.{input-signal, signal-low, signal-high, set-no-signal, set-no-value, set-done}
+use Rattle.laws_kept.proofs.Sound.{Sound, with-value-sound}
+use Rattle.file_stim.specs.declared.Cursor.{Cursor}
+use Rattle.file_stim.proofs.Steps.{GivenAt}
+use Rattle.listing.specs.Feeding.{Passed, PanelInputs, InHand, Fed}
 use Rattle.listing.specs.Buffers.{linesTo}
 
 -- what holds of a head, and of it with an input's value replaced, holds after a setting, whether it is accepted or not
@@ -46,14 +46,14 @@ set-sound panel h s v few good =
     with-value-sound panel h few good s v (signal-low panel s known) (signal-high panel s known) l)
 
 -- a line of a later time sets an input of the panel
-line-input : {n : Network} {stim panel : List ℕ} → Feeds n stim panel → (line : ℕ) → line < stimCount stim → 1 ≤ stimTime stim line
+line-input : {n : Network} {stim panel : List ℕ} → PanelInputs n stim panel → (line : ℕ) → line < stimCount stim → 1 ≤ stimTime stim line
     → (s : ℕ) → s ≡ stimSignal stim line → inputIn panel s ≡ true
 line-input {n} {stim} {panel} feeds line l later s e =
     let g = stim-right n stim (feeds .passes) .given line l in
     subst (λ (x : ℕ). inputIn panel x ≡ true) (sym e) (feeds .inputs _ (g .signal) (g .later (λ q. omega arith)))
 
 -- the setting of a line of a later time is never refused
-pub setting-done : (n : Network) (stim panel program memory : List ℕ) (h : Head) → Feeds n stim panel → (line : ℕ) → line < stimCount stim
+pub setting-done : (n : Network) (stim panel program memory : List ℕ) (h : Head) → PanelInputs n stim panel → (line : ℕ) → line < stimCount stim
     → 1 ≤ stimTime stim line → (s v : ℕ) → s ≡ stimSignal stim line → v ≤ 3
     → commanded panel program memory h (set s v) .answer ≡ done
 setting-done n stim panel program memory h feeds line l later s v e few =
@@ -103,7 +103,7 @@ module _ {stim panel : List ℕ} {t line : ℕ} {first : Head} {h : Head} {at : 
       passed k l u (yes q) = rw q (sym (g .time-is) ∙ now)
       passed k l u (no d) = fed .times k l (omega arith)
 
-      hands : (n : Network) → Feeds n stim panel → 1 ≤ t → InHand n stim t line first
+      hands : (n : Network) → PanelInputs n stim panel → 1 ≤ t → InHand n stim t line first
           → InHand n stim t (suc at) (commanded panel [] [] h (set signal value) .head)
       hands n feeds l hand =
           let right = stim-right n stim (feeds .passes) .given at low in

@@ -14,7 +14,7 @@ use Rattle.writing.specs.Text.{lineText}
 use Rattle.model.specs.Refusal.{Check, pass, fail}
 use Rattle.model.specs.Files.{Files}
 use Rattle.model.specs.Netlist.{netCheck}
-use Rattle.model.specs.Schedule.{modCheck}
+use Rattle.model.specs.ModuleFile.{modCheck}
 use Rattle.model.specs.Stimulus.{stimTime, stimSignal, stimValue, stimCheck, stimCount, endTime}
 use Rattle.model.specs.Acceptance.{panelLimit, networkOf, fileCheck, Accepted}
 use Rattle.model.specs.Session.{Head}
@@ -22,17 +22,17 @@ use Rattle.model.specs.Listing.{printed}
 use Rattle.model.specs.Demands.{Demand2}
 use Rattle.model.proofs.Refusals.{pass-not-fail, first-both}
 use Rattle.model.proofs.Accepted.{net-accepted, mod-accepted, stim-accepted}
-use Rattle.memory.specs.Memory.{memoryOf}
-use Rattle.memory.specs.Memory.{held as heldIn}
-use Rattle.tables.specs.Panel.{signalsIn, processorsIn, slotsIn, handIn}
-use Rattle.machine.specs.Running.{cycleIn}
-use Rattle.loading.specs.Loaded.{panelOf, programOf, openingBytes}
-use Rattle.loading.proofs.Loaded.{loaded-tables}
-use Rattle.checks.specs.declared.FileAnswer.the-variants.{Refused}
-use Rattle.header.specs.declared.Session.{Session}
-use Rattle.header.specs.Header.{headIn, headOf, withHead}
-use Rattle.header.proofs.Heads.{same-head, past-end, decoded}
-use Rattle.stimulus.proofs.Steps.{GivenAt}
+use Rattle.buffers_memory.specs.Memory.{memoryOf}
+use Rattle.buffers_memory.specs.Memory.{withMemory}
+use Rattle.buffers_tables.specs.Panel.{signalsIn, processorsIn, slotsIn, handIn}
+use Rattle.machine_run.specs.Running.{cycleIn}
+use Rattle.buffers_load.specs.Loaded.{panelOf, programOf, openingBytes}
+use Rattle.buffers_load.proofs.Loaded.{loaded-tables}
+use Rattle.file_checks.specs.declared.FileAnswer.the-variants.{Refused}
+use Rattle.session_state.specs.declared.Session.{Session}
+use Rattle.session_state.specs.Header.{headIn, headOf, withHead}
+use Rattle.session_state.proofs.Heads.{same-head, past-end, decoded}
+use Rattle.file_stim.proofs.Steps.{GivenAt}
 use Rattle.listing.specs.declared.Lister.{Lister}
 use Rattle.listing.specs.declared.Piece.{Piece}
 use Rattle.listing.specs.Changes.{pieceLength, shownLength, notShown, valueHeld, changeLines, shownWith}
@@ -129,7 +129,7 @@ module _ {files : Files} {k : ℕ} {l : Lister} {stim panel program memory shown
       let settled : Settled stim panel (l .pieces) (l .cursor .line) (headOf (l .session)) =
       settles (stimCount stim) (omega arith) (fed-starts stim panel (l .pieces) (l .cursor .line) (headOf (l .session)) (stands-few s)) in
       let fresh = withHead (settled .head) panel in
-      let after = heldIn (processorsIn panel) (slotsIn panel) (cycleIn fresh program (memoryOf memory)) memory in
+      let after = withMemory (processorsIn panel) (slotsIn panel) (cycleIn fresh program (memoryOf memory)) memory in
       let text = changeLines (signalsIn fresh) (l .pieces) (valueHeld fresh after) (λ x. getD shown x 0) in
       let sound = settled .fed .sound (right-signals (s .right)) (stands-sound s) in
       record {
@@ -187,8 +187,8 @@ module _ (files : Files) (accepted : Accepted panelLimit files) where
   opens : Stands files 0 lister (files .STIM) panel (programOf (files .MOD)) (openingBytes (files .NET) (files .MOD) (files .STIM)) (listed shownLength (λ a. notShown))
   opens =
       let net = net-accepted panelLimit files accepted in
-      let table = mod-accepted panelLimit files accepted in
-      let size = loaded-tables (files .NET) (files .MOD) net table (files .STIM) .panel-size in
+      let modfile = mod-accepted panelLimit files accepted in
+      let size = loaded-tables (files .NET) (files .MOD) net modfile (files .STIM) .panel-size in
       opened files accepted lister panel (programOf (files .MOD)) (openingBytes (files .NET) (files .MOD) (files .STIM)) (listed shownLength (λ a. notShown))
       refl refl refl
       (decoded panel (listed 4097 (handIn panel)) size refl _ _ _ refl refl refl)

@@ -10,21 +10,21 @@ use Rattle.model.specs.Files.{Files}
 use Rattle.model.specs.Netlist.{network}
 use Rattle.model.specs.Value.{start, history}
 use Rattle.model.specs.Machine.{opening, after}
-use Rattle.model.specs.Schedule.{modProcessors, modSlots, moduleOf}
+use Rattle.model.specs.ModuleFile.{modProcessors, modSlots, moduleOf}
 use Rattle.model.specs.Stimulus.{endTime}
-use Rattle.model.specs.Acceptance.{panelLimit, networkOf, scheduleOf, givenOf, Accepted}
+use Rattle.model.specs.Acceptance.{panelLimit, networkOf, moduleOfFiles, givenOf, Accepted}
 use Rattle.model.proofs.Accepted.{net-accepted, mod-accepted, stim-accepted}
-use Rattle.memory.specs.Memory.{memoryLength, within}
-use Rattle.memory.proofs.Written.{written-length}
-use Rattle.loading.specs.Loaded.{panelOf, programOf, openingBytes}
-use Rattle.loading.proofs.Loaded.{loaded-tables, loaded-head}
-use Rattle.opening.proofs.Opened.{opened-ranged}
-use Rattle.header.specs.Header.{headIn, headOf}
-use Rattle.header.proofs.Heads.{same-head}
+use Rattle.buffers_memory.specs.Memory.{memoryLength, within}
+use Rattle.buffers_memory.proofs.Written.{written-length}
+use Rattle.buffers_load.specs.Loaded.{panelOf, programOf, openingBytes}
+use Rattle.buffers_load.proofs.Loaded.{loaded-tables, loaded-head}
+use Rattle.session_opening.proofs.Opened.{opened-ranged}
+use Rattle.session_state.specs.Header.{headIn, headOf}
+use Rattle.session_state.proofs.Heads.{same-head}
 use Rattle.listing.specs.declared.Lister.{Lister}
 use Rattle.listing.specs.Changes.{shownLength, notShown}
 use Rattle.listing.specs.Feeding.{Stimulus, Passed}
-use Rattle.listing.specs.Cycling.{Right}
+use Rattle.listing.specs.Cycling.{RightBuffers}
 use Rattle.listing.specs.Buffers.{cyclesAfter, panelAt, memoryAt, shownAt}
 use Rattle.listing.specs.Standing.{Stands}
 use Rattle.listing.proofs.Feeding.{passed-line}
@@ -42,7 +42,7 @@ module _ (files : Files) (accepted : Accepted panelLimit files) where
   abbrev memory : List ℕ
   memory = openingBytes (files .NET) (files .MOD) (files .STIM)
 
-  opened-right : Right panel program memory
+  opened-right : RightBuffers panel program memory
   unfolding openingBytes
   opened-right =
       let tables = loaded-tables (files .NET) (files .MOD) (net-accepted panelLimit files accepted) (mod-accepted panelLimit files accepted) (files .STIM) in
@@ -50,7 +50,7 @@ module _ (files : Files) (accepted : Accepted panelLimit files) where
         sizes = record {
           panel-size = tables .panel-size;
           program-size = tables .program-size;
-          memory-size = written-length (within (modProcessors (files .MOD)) (modSlots (files .MOD))) (opening (scheduleOf files) (start (networkOf files) (givenOf files))) (listed memoryLength (λ a. 0));
+          memory-size = written-length (within (modProcessors (files .MOD)) (modSlots (files .MOD))) (opening (moduleOfFiles files) (start (networkOf files) (givenOf files))) (listed memoryLength (λ a. 0));
         };
         range = opened-ranged files accepted;
       }

@@ -14,7 +14,7 @@ use Rattle.writing.specs.Text.{lineText}
 use Rattle.model.specs.Refusal.{Check, pass, fail, first}
 use Rattle.model.specs.Files.{Files}
 use Rattle.model.specs.Netlist.{network, netCheck}
-use Rattle.model.specs.Schedule.{modProcessors, modSlots, modCheck}
+use Rattle.model.specs.ModuleFile.{modProcessors, modSlots, modCheck}
 use Rattle.model.specs.Stimulus.{stimCheck, endTime}
 use Rattle.model.specs.Acceptance.{panelLimit, networkOf, fileCheck, Accepted}
 use Rattle.model.specs.Listing.{valueAt, joined, listedFirst, listedCycle, listingOf, listing, printedFor, printed}
@@ -22,11 +22,11 @@ use Rattle.model.specs.Demands.{Demand2}
 use Rattle.model.proofs.Refusals.{pass-not-fail, first-stays, first-second}
 use Rattle.model.proofs.Accepted.{net-accepted, mod-accepted, stim-accepted, net-size, net-length, mod-processors, mod-slots, mod-length, stim-right}
 use Rattle.model.proofs.Demands.{joined-same, printed-demand-2}
-use Rattle.netlist.proofs.Prefix.{net-prefix}
-use Rattle.schedule.proofs.Prefix.{mod-prefix}
-use Rattle.stimulus.proofs.Prefix.{stim-prefix}
-use Rattle.checks.specs.declared.FileAnswer.{FileAnswer}
-use Rattle.checks.specs.Answer.{fileRefusal}
+use Rattle.file_net.proofs.Prefix.{net-prefix}
+use Rattle.file_mod_lines.proofs.Prefix.{mod-prefix}
+use Rattle.file_stim.proofs.Prefix.{stim-prefix}
+use Rattle.file_checks.specs.declared.FileAnswer.{FileAnswer}
+use Rattle.file_checks.specs.Answer.{fileRefusal}
 use Rattle.listing.specs.declared.Lister.{Lister}
 use Rattle.listing.specs.Refused.{refusedText}
 use Rattle.listing.specs.Pieces.{pieceCount, pieceAt}
@@ -125,11 +125,11 @@ net-whole : (net : List ℕ) → netCheck panelLimit (take 299082 net) ≡ pass 
 net-whole net h =
     whole 299082 net (omega (arith, net-length panelLimit (take 299082 net) h, net-size panelLimit (take 299082 net) h))
 
-mod-whole : (net table : List ℕ) → modCheck (network net) (take 348246 table) ≡ pass → take 348246 table ≡ table
-mod-whole net table h = whole 348246 table (omega (arith, mod-length (network net) (take 348246 table) h, most))
+mod-whole : (net modfile : List ℕ) → modCheck (network net) (take 348246 modfile) ≡ pass → take 348246 modfile ≡ modfile
+mod-whole net modfile h = whole 348246 modfile (omega (arith, mod-length (network net) (take 348246 modfile) h, most))
   where
-    most : modProcessors (take 348246 table) * modSlots (take 348246 table) ≤ 4096
-    most = omega (arith, mul-le-mul (mod-processors (network net) (take 348246 table) h .1) (mod-slots (network net) (take 348246 table) h .1))
+    most : modProcessors (take 348246 modfile) * modSlots (take 348246 modfile) ≤ 4096
+    most = omega (arith, mul-le-mul (mod-processors (network net) (take 348246 modfile) h .1) (mod-slots (network net) (take 348246 modfile) h .1))
 
 stim-whole : (net stim : List ℕ) → stimCheck (network net) (take 1245147 stim) ≡ pass → take 1245147 stim ≡ stim
 stim-whole net stim h =

@@ -17,31 +17,31 @@ use Rattle.model.specs.Files.{Files}
 use Rattle.model.specs.Network.{Network, Signal, input}
 use Rattle.model.specs.Netlist.{network}
 use Rattle.model.specs.Stimulus.{stimLine, stimTime, stimCheck, stimCount, endTime, held}
-use Rattle.model.specs.Acceptance.{panelLimit, networkOf, scheduleOf, Accepted}
+use Rattle.model.specs.Acceptance.{panelLimit, networkOf, moduleOfFiles, Accepted}
 use Rattle.model.specs.Session.{Head, Watch}
 use Rattle.model.specs.Listing.{valueAt}
 use Rattle.model.proofs.Accepted.{net-accepted, stim-accepted, net-size, stim-right, times-rise}
-use Rattle.memory.specs.Memory.{memoryOf, MemoryBytes}
-use Rattle.memory.specs.Memory.{held as heldIn}
-use Rattle.tables.specs.Panel.{signalsIn, processorsIn, slotsIn, kindIn, handIn, processorIn}
-use Rattle.tables.specs.Tables.{networkIn, moduleIn}
-use Rattle.tables.specs.Holding.{Holding}
-use Rattle.ranges.proofs.Ranged.{head-ranged, panel-in-range, ranged-memory}
-use Rattle.machine.specs.Running.{cycleIn}
-use Rattle.header.specs.Header.{headOf, withHead}
-use Rattle.header.specs.Commands.{signalIn, inputIn}
-use Rattle.header.proofs.Heads.{same-head, past-end}
-use Rattle.session.proofs.Watched.{ranged-processor}
-use Rattle.kept.proofs.Panels.{head-in-range}
-use Rattle.kept.proofs.Sound.{Sound}
-use Rattle.kept.proofs.Holding.{with-head-holding}
-use Rattle.stimulus.proofs.Passed.{nothing-later, given-by-then}
-use Rattle.stimulus.proofs.Steps.{line-right, time-field}
+use Rattle.buffers_memory.specs.Memory.{memoryOf, MemoryBytes}
+use Rattle.buffers_memory.specs.Memory.{withMemory}
+use Rattle.buffers_tables.specs.Panel.{signalsIn, processorsIn, slotsIn, kindIn, handIn, processorIn}
+use Rattle.buffers_tables.specs.Tables.{networkIn, moduleIn}
+use Rattle.buffers_tables.specs.Holding.{Holding}
+use Rattle.buffers_range.proofs.Ranged.{head-ranged, panel-in-range, ranged-memory}
+use Rattle.machine_run.specs.Running.{cycleIn}
+use Rattle.session_state.specs.Header.{headOf, withHead}
+use Rattle.session_state.specs.Commands.{signalIn, inputIn}
+use Rattle.session_state.proofs.Heads.{same-head, past-end}
+use Rattle.session_calls.proofs.Watched.{ranged-processor}
+use Rattle.laws_kept.proofs.Panels.{head-in-range}
+use Rattle.laws_kept.proofs.Sound.{Sound}
+use Rattle.laws_kept.proofs.Holding.{with-head-holding}
+use Rattle.file_stim.proofs.Passed.{nothing-later, given-by-then}
+use Rattle.file_stim.proofs.Steps.{line-right, time-field}
 use Rattle.listing.specs.declared.Lister.{Lister}
 use Rattle.listing.specs.declared.Piece.{Piece}
 use Rattle.listing.specs.Changes.{shownLength, valueHeld, changeLines, shownWith}
-use Rattle.listing.specs.Feeding.{Stimulus, Passed, Feeds, InHand, Fed}
-use Rattle.listing.specs.Cycling.{Right, Ready, InPanel, cycled}
+use Rattle.listing.specs.Feeding.{Stimulus, Passed, PanelInputs, InHand, Fed}
+use Rattle.listing.specs.Cycling.{RightBuffers, Ready, InPanel, cycled}
 use Rattle.listing.specs.Pieces.{pieceAt}
 use Rattle.listing.specs.Buffers.{cyclesAfter, lineAt, handAt, panelAt, panelAfter, memoryAt, shownAt, shownAfter, headAt, headAfter}
 use Rattle.listing.specs.Standing.{Stands, Gives}
@@ -57,7 +57,7 @@ end-small n stim passes =
     number-small stim (stimLine (stimCount stim)) (time-field stim (stimCount stim) (line-right n stim passes (stimCount stim) (omega arith)))
 
 -- what buffers that are right give to the functions that read values
-module _ {panel program memory : List ℕ} (right : Right panel program memory) where
+module _ {panel program memory : List ℕ} (right : RightBuffers panel program memory) where
   pub right-signals : signalsIn panel ≤ 4096
   right-signals = head-ranged panel program memory (right .range) .signals-high
 
@@ -68,7 +68,7 @@ module _ {panel program memory : List ℕ} (right : Right panel program memory) 
   right-memory = ranged-memory panel program memory (right .sizes .memory-size) (right .range)
 
 -- a panel that watches nothing and its values in hand are a sound head, whatever the cycles finished
-panel-sound : {panel program memory : List ℕ} → Right panel program memory → handIn panel 0 ≡ 1 → (t : ℕ)
+panel-sound : {panel program memory : List ℕ} → RightBuffers panel program memory → handIn panel 0 ≡ 1 → (t : ℕ)
     → Sound panel (record { finished = t; hand = handIn panel; watch = record { signal = 1; mask = 0 } })
 panel-sound {panel} {program} {memory} right none t =
     let r = panel-in-range panel program memory (right .range) in
@@ -87,7 +87,7 @@ panel-sound {panel} {program} {memory} right none t =
 
 -- the changes that write_changes gives are a piece, and it shows what the piece tells
 module _ (files : Files) (accepted : Accepted panelLimit files) (t : ℕ) (more : t ≤ endTime (files .STIM)) (panel program : List ℕ)
-    (holding : Holding (networkOf files) (scheduleOf files) panel program) (memory : List ℕ) (memory-is : memory ≡ memoryAt files t)
+    (holding : Holding (networkOf files) (moduleOfFiles files) panel program) (memory : List ℕ) (memory-is : memory ≡ memoryAt files t)
     (shown : List ℕ) (shown-is : shown ≡ shownAfter files t) where
   size-is : signalsIn panel ≡ networkOf files .size
   unfolding networkIn
@@ -132,10 +132,10 @@ module _ {files : Files} {k : ℕ} {l : Lister} {stim panel program memory shown
   pub stands-pieces : l .pieces ≤ l .end .0 + 1
   stands-pieces = omega (arith, s .given, s .left, s .end)
 
-  stands-holding : Holding (networkOf files) (scheduleOf files) panel program
+  stands-holding : Holding (networkOf files) (moduleOfFiles files) panel program
   stands-holding =
-      subst (λ (x : List ℕ). Holding (networkOf files) (scheduleOf files) x program) (sym (s .panel-is))
-      (subst (λ (x : List ℕ). Holding (networkOf files) (scheduleOf files) (panelAfter files k) x) (sym (s .program-is))
+      subst (λ (x : List ℕ). Holding (networkOf files) (moduleOfFiles files) x program) (sym (s .panel-is))
+      (subst (λ (x : List ℕ). Holding (networkOf files) (moduleOfFiles files) (panelAfter files k) x) (sym (s .program-is))
       (panel-holding files (s .accepted) (cyclesAfter files k)))
 
   -- the session has the panel's values in hand
@@ -154,7 +154,7 @@ module _ {files : Files} {k : ℕ} {l : Lister} {stim panel program memory shown
       (bytes : out ≡ sets lent 0 text) (given : p .lister .pieces ≡ l .pieces + 1) (end : p .lister .end .0 ≡ l .end .0)
       (t : ℕ) (cycles : cyclesAfter files (suc k) ≡ t) (line : p .lister .cursor .line ≡ lineAt files t)
       (session : headOf (p .lister .session) ≡ headAt files t) (panel-left : panel′ ≡ panelAt files t) (memory-left : memory′ ≡ memoryAt files t)
-      (shown-left : shown′ ≡ shownAfter files (suc k)) (right : Right panel′ program memory′) where
+      (shown-left : shown′ ≡ shownAfter files (suc k)) (right : RightBuffers panel′ program memory′) where
     gives : Gives files k lent p out stim panel′ program memory′ shown′
     gives =
         record {
@@ -300,7 +300,7 @@ module _ {files : Files} {t : ℕ} {l : Lister} {stim panel program memory shown
   size-here = stands-holding s .signals .size
 
   -- the network's inputs are the panel's
-  feeds : Feeds n given-stim panel
+  feeds : PanelInputs n given-stim panel
   unfolding inputIn signalIn networkIn
   feeds =
       record {
@@ -341,12 +341,12 @@ module _ {files : Files} {t : ℕ} {l : Lister} {stim panel program memory shown
           let g : Signal n x = record { low = low; high = omega arith } in
           hands-next x g ∙ sym (hand-signal files (suc t) x g)
 
-  fresh-holding : Holding n (scheduleOf files) fresh program
+  fresh-holding : Holding n (moduleOfFiles files) fresh program
   fresh-holding = with-head-holding h panel program (right-signals (s .right)) (stands-holding s)
 
   -- and then the cycle
-  module _ (memory′ : List ℕ) (left : memory′ ≡ heldIn (processorsIn panel) (slotsIn panel) (cycleIn fresh program (memoryOf memory)) memory) where
-    pub cycle-stands : Right fresh program memory′
+  module _ (memory′ : List ℕ) (left : memory′ ≡ withMemory (processorsIn panel) (slotsIn panel) (cycleIn fresh program (memoryOf memory)) memory) where
+    pub cycle-stands : RightBuffers fresh program memory′
     cycle-stands = cycle-right h panel program memory stands-ready memory′ left
 
     memory-left : memory′ ≡ memoryAt files (suc t)
@@ -354,10 +354,10 @@ module _ {files : Files} {t : ℕ} {l : Lister} {stim panel program memory shown
     memory-left =
         memory-next files (s .accepted) t memory memory′ (s .memory-is ∙ ap (memoryAt files) now)
         (left
-        ∙ ap (λ (p : ℕ). heldIn p (slotsIn panel) (cycleIn fresh program (memoryOf memory)) memory) (stands-holding s .lines .processors)
-        ∙ ap (λ (c : ℕ). heldIn (scheduleOf files .processors) c (cycleIn fresh program (memoryOf memory)) memory) (stands-holding s .lines .slots)
-        ∙ ap (λ (x : List ℕ). heldIn (scheduleOf files .processors) (scheduleOf files .slots) (cycleIn x program (memoryOf memory)) memory) fresh-is
-        ∙ ap (λ (x : List ℕ). heldIn (scheduleOf files .processors) (scheduleOf files .slots) (cycleIn (panelAt files (suc t)) x (memoryOf memory)) memory) (s .program-is))
+        ∙ ap (λ (p : ℕ). withMemory p (slotsIn panel) (cycleIn fresh program (memoryOf memory)) memory) (stands-holding s .lines .processors)
+        ∙ ap (λ (c : ℕ). withMemory (moduleOfFiles files .processors) c (cycleIn fresh program (memoryOf memory)) memory) (stands-holding s .lines .slots)
+        ∙ ap (λ (x : List ℕ). withMemory (moduleOfFiles files .processors) (moduleOfFiles files .slots) (cycleIn x program (memoryOf memory)) memory) fresh-is
+        ∙ ap (λ (x : List ℕ). withMemory (moduleOfFiles files .processors) (moduleOfFiles files .slots) (cycleIn (panelAt files (suc t)) x (memoryOf memory)) memory) (s .program-is))
 
     session-left : cycled h ≡ headAt files (suc t)
     session-left =
@@ -414,15 +414,15 @@ module _ {files : Files} where
   pub later-right : (m : ℕ) {l : Lister} {stim panel program memory shown : List ℕ} → Stands files m l stim panel program memory shown
       → (m ≡ 0 → ⊥) → m ≤ l .end .0 → {h : Head} {next : ℕ} → Fed stim panel m (l .cursor .line) (headOf (l .session)) h next
       → (next < stimCount stim → stimTime stim next ≡ m → ⊥) → (memory′ : List ℕ)
-      → memory′ ≡ heldIn (processorsIn panel) (slotsIn panel) (cycleIn (withHead h panel) program (memoryOf memory)) memory
-      → Right (withHead h panel) program memory′
+      → memory′ ≡ withMemory (processorsIn panel) (slotsIn panel) (cycleIn (withHead h panel) program (memoryOf memory)) memory
+      → RightBuffers (withHead h panel) program memory′
   later-right zero s d more fed stops = absurd (d refl)
   later-right (suc t) s d more fed stops = cycle-stands s (omega (arith, s .end)) fed stops
 
   pub gives-later : (m : ℕ) {l : Lister} {stim panel program memory shown : List ℕ} → Stands files m l stim panel program memory shown
       → (m ≡ 0 → ⊥) → m ≤ l .end .0 → {h : Head} {next : ℕ} → Fed stim panel m (l .cursor .line) (headOf (l .session)) h next
       → (next < stimCount stim → stimTime stim next ≡ m → ⊥) → (panel′ : List ℕ) → panel′ ≡ withHead h panel → (memory′ : List ℕ)
-      → memory′ ≡ heldIn (processorsIn panel) (slotsIn panel) (cycleIn (withHead h panel) program (memoryOf memory)) memory
+      → memory′ ≡ withMemory (processorsIn panel) (slotsIn panel) (cycleIn (withHead h panel) program (memoryOf memory)) memory
       → (lent out shown′ : List ℕ) (p : Piece)
       → p .length ≡ length (changeLines (signalsIn panel′) m (valueHeld panel′ memory′) (λ x. getD shown x 0))
       → out ≡ sets lent 0 (changeLines (signalsIn panel′) m (valueHeld panel′ memory′) (λ x. getD shown x 0))

@@ -9,16 +9,16 @@ use Rattle.model.specs.Files.{Files}
 use Rattle.model.specs.Network.{isSignal}
 use Rattle.model.specs.Value.{start, history}
 use Rattle.model.specs.Machine.{opening, after}
-use Rattle.model.specs.Schedule.{modProcessors, modSlots}
+use Rattle.model.specs.ModuleFile.{modProcessors, modSlots}
 use Rattle.model.specs.Stimulus.{stimTime, stimCount, held, endTime}
-use Rattle.model.specs.Acceptance.{networkOf, scheduleOf, givenOf}
+use Rattle.model.specs.Acceptance.{networkOf, moduleOfFiles, givenOf}
 use Rattle.model.specs.Session.{Head}
 use Rattle.model.specs.Listing.{valueAt}
-use Rattle.memory.specs.Memory.{memoryLength}
-use Rattle.memory.specs.Memory.{held as heldIn}
-use Rattle.tables.specs.Panel.{handIn}
-use Rattle.loading.specs.Loaded.{panelOf}
-use Rattle.header.specs.Header.{withHead}
+use Rattle.buffers_memory.specs.Memory.{memoryLength}
+use Rattle.buffers_memory.specs.Memory.{withMemory}
+use Rattle.buffers_tables.specs.Panel.{handIn}
+use Rattle.buffers_load.specs.Loaded.{panelOf}
+use Rattle.session_state.specs.Header.{withHead}
 use Rattle.listing.specs.Changes.{shownLength, notShown}
 
 -- the cycles finished: piece 0 is time 0, and after T cycles the last line asks for none
@@ -57,8 +57,8 @@ panelAfter files k = panelAt files (cyclesAfter files k)
 unfoldable pub memoryAt : Files → ℕ → List ℕ
 memoryAt files t =
     let n = networkOf files in
-    let m = scheduleOf files in
-    heldIn (modProcessors (files .MOD)) (modSlots (files .MOD))
+    let m = moduleOfFiles files in
+    withMemory (modProcessors (files .MOD)) (modSlots (files .MOD))
     (after n m (opening m (start n (givenOf files))) (history (held (files .STIM)) t))
     (listed memoryLength (λ a. 0))
 

@@ -8,8 +8,8 @@ use Rattle.logic.specs.Choice.{if_then_else_}
 use Rattle.logic.specs.Listed.{listed}
 use Rattle.writing.specs.Text.{lineText}
 use Rattle.model.specs.Listing.{joined}
-use Rattle.memory.specs.Memory.{memoryOf}
-use Rattle.tables.specs.Panel.{processorIn, slotIn}
+use Rattle.buffers_memory.specs.Memory.{memoryOf}
+use Rattle.buffers_tables.specs.Panel.{processorIn, slotIn}
 
 -- the longest piece: a line of each signal
 abbrev pub pieceLength : ℕ

@@ -5,19 +5,19 @@ use mathlib.Core.Bool.{true}
 use mathlib.Core.List.{List}
 use lib.ListN.{length}
 use Rattle.model.specs.Session.{Head}
-use Rattle.tables.specs.Panel.{handIn}
-use Rattle.ranges.specs.Ranges.{ranged}
-use Rattle.lengths.proofs.Sizes.{Sizes}
-use Rattle.kept.proofs.Sound.{Sound}
+use Rattle.buffers_tables.specs.Panel.{handIn}
+use Rattle.buffers_range.specs.Ranges.{ranged}
+use Rattle.buffers_lengths.proofs.Sizes.{Sizes}
+use Rattle.laws_kept.proofs.Sound.{Sound}
 
 -- working buffers of their lengths and in range
-pub record Right (panel program memory : List ℕ) : Type 0 where
+pub record RightBuffers (panel program memory : List ℕ) : Type 0 where
   pub sizes : Sizes (length panel) (length program) (length memory)
   pub range : ranged panel program memory ≡ true
 
 -- and a session over them that watches nothing and has a cycle left
 pub record Ready (h : Head) (panel program memory : List ℕ) : Type 0 where
-  pub right : Right panel program memory
+  pub right : RightBuffers panel program memory
   pub sound : Sound panel h
   pub mask : h .watch .mask ≡ 0
   pub left : h .finished < 65535

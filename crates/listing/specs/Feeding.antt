@@ -8,9 +8,9 @@ use Rattle.model.specs.Refusal.{pass}
 use Rattle.model.specs.Network.{Network, Signal, input}
 use Rattle.model.specs.Stimulus.{stimTime, stimCheck, stimCount, lastGiven}
 use Rattle.model.specs.Session.{Head}
-use Rattle.tables.specs.Panel.{signalsIn}
-use Rattle.header.specs.Commands.{inputIn}
-use Rattle.kept.proofs.Sound.{Sound}
+use Rattle.buffers_tables.specs.Panel.{signalsIn}
+use Rattle.session_state.specs.Commands.{inputIn}
+use Rattle.laws_kept.proofs.Sound.{Sound}
 
 -- a STIM that some network accepts
 pub record Stimulus (stim : List ℕ) : Type 0 where
@@ -24,7 +24,7 @@ pub record Passed (stim : List ℕ) (t line : ℕ) : Type 0 where
   pub later : line < stimCount stim → t < stimTime stim line
 
 -- the panel has the inputs of a network that accepts STIM
-pub record Feeds (n : Network) (stim panel : List ℕ) : Type 0 where
+pub record PanelInputs (n : Network) (stim panel : List ℕ) : Type 0 where
   pub passes : stimCheck n stim ≡ pass
   pub inputs : (s : ℕ) → Signal n s → n .kind s ≡ input → inputIn panel s ≡ true
 
@@ -41,4 +41,4 @@ pub record Fed (stim panel : List ℕ) (t line : ℕ) (before after : Head) (nex
   pub watch : after .watch ≡ before .watch
   pub unfed : next ≡ line → (s : ℕ) → after .hand s ≡ before .hand s
   pub sound : signalsIn panel ≤ 4096 → Sound panel before → Sound panel after
-  pub hands : (n : Network) → Feeds n stim panel → 1 ≤ t → InHand n stim t line before → InHand n stim t next after
+  pub hands : (n : Network) → PanelInputs n stim panel → 1 ≤ t → InHand n stim t line before → InHand n stim t next after

@@ -6,11 +6,11 @@ use lib.ListN.{length, take}
 use Rattle.model.specs.Refusal.{pass}
 use Rattle.model.specs.Files.{Files}
 use Rattle.model.specs.Netlist.{netCheck}
-use Rattle.model.specs.Schedule.{modCheck}
+use Rattle.model.specs.ModuleFile.{modCheck}
 use Rattle.model.specs.Stimulus.{stimCheck}
 use Rattle.model.specs.Acceptance.{panelLimit, networkOf, Accepted}
-use Rattle.checks.specs.declared.FileAnswer.{FileAnswer}
-use Rattle.checks.specs.Answer.{fileRefusal}
+use Rattle.file_checks.specs.declared.FileAnswer.{FileAnswer}
+use Rattle.file_checks.specs.Answer.{fileRefusal}
 use Rattle.listing.specs.declared.Lister.{Lister}
 use Rattle.listing.specs.declared.Piece.{Piece}
 use Rattle.listing.specs.Changes.{pieceLength}

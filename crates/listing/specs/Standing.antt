@@ -8,12 +8,12 @@ use lib.Seq.{sets}
 use Rattle.model.specs.Files.{Files}
 use Rattle.model.specs.Stimulus.{endTime}
 use Rattle.model.specs.Acceptance.{panelLimit, Accepted}
-use Rattle.loading.specs.Loaded.{programOf}
-use Rattle.header.specs.Header.{headOf}
+use Rattle.buffers_load.specs.Loaded.{programOf}
+use Rattle.session_state.specs.Header.{headOf}
 use Rattle.listing.specs.declared.Lister.{Lister}
 use Rattle.listing.specs.declared.Piece.{Piece}
 use Rattle.listing.specs.Changes.{pieceLength, shownLength}
-use Rattle.listing.specs.Cycling.{Right}
+use Rattle.listing.specs.Cycling.{RightBuffers}
 use Rattle.listing.specs.Pieces.{pieceAt}
 use Rattle.listing.specs.Buffers.{lineAfter, headAfter, panelAfter, memoryAfter, shownAfter}
 
@@ -30,7 +30,7 @@ pub record Stands (files : Files) (k : ℕ) (l : Lister) (stim panel program mem
   pub memory-is : memory ≡ memoryAfter files k
   pub shown-is : shown ≡ shownAfter files k
   -- of these bytes: they have their lengths and are in range
-  pub right : Right panel program memory
+  pub right : RightBuffers panel program memory
   pub shown-size : length shown ≡ shownLength
 
 -- some files, and a number of pieces

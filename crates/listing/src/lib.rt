@@ -8,22 +8,22 @@ ghost use lib.Seq.{sets};
 ghost use Rattle.model.specs.Files.{Files};
 ghost use Rattle.model.specs.Acceptance.{panelLimit, Accepted};
 ghost use Rattle.model.specs.Stimulus.{stimTime, stimCount, endTime};
-ghost use Rattle.memory.specs.Memory.{memoryLength, memoryOf, held, MemoryBytes};
-ghost use Rattle.tables.specs.Panel.{panelLength, signalsIn, processorsIn, slotsIn, processorIn};
-ghost use Rattle.tables.specs.Program.{programLength};
-ghost use Rattle.machine.specs.Running.{cycleIn};
-ghost use Rattle.checks.specs.Answer.{fileRefusal};
-ghost use Rattle.header.specs.Header.{headOf, withHead};
+ghost use Rattle.buffers_memory.specs.Memory.{memoryLength, memoryOf, withMemory, MemoryBytes};
+ghost use Rattle.buffers_tables.specs.Panel.{panelLength, signalsIn, processorsIn, slotsIn, processorIn};
+ghost use Rattle.buffers_tables.specs.Program.{programLength};
+ghost use Rattle.machine_run.specs.Running.{cycleIn};
+ghost use Rattle.file_checks.specs.Answer.{fileRefusal};
+ghost use Rattle.session_state.specs.Header.{headOf, withHead};
 ghost use Rattle.listing.specs.Refused.{refusedText};
 ghost use Rattle.listing.specs.Changes.{pieceLength, shownLength, valueHeld, changeLine, changeLines, shownWith};
 ghost use Rattle.listing.specs.Feeding.{Stimulus, Passed, Fed};
 ghost use Rattle.listing.specs.Cycling.{Ready, InPanel, cycled};
 ghost use Rattle.listing.specs.Standing.{Stands, Standing, Gives};
-use checks::FileAnswer;
-use header::Session;
-use stimulus::Cursor;
-use stimulus::Step;
-use tables::Cycle;
+use buffers_tables::Cycle;
+use file_checks::FileAnswer;
+use file_stim::Cursor;
+use file_stim::Step;
+use session_state::Session;
 
 // A listing on its way: the open session, the next line of STIM, T, and how many pieces were given.
 pub struct Lister {
@@ -89,12 +89,12 @@ fn write_changes(time: u16, panel: &[u8], memory: &[u8], shown: &mut [u8], out: 
     ensures { λ _. ⌜ now (out .exit) ≡ sets (now (out .entry)) 0 (changeLines (signalsIn (now (panel .entry))) time (valueHeld (now (panel .entry)) (now (memory .entry))) (λ s. getD (now (shown .entry)) s 0)) ⌝ }
     ensures { λ _. ⌜ now (shown .exit) ≡ shownWith (signalsIn (now (panel .entry))) (valueHeld (now (panel .entry)) (now (memory .entry))) (λ s. getD (now (shown .entry)) s 0) ⌝ }
 {
-    let signals = tables::word_at(panel, 0);
+    let signals = buffers_tables::word_at(panel, 0);
     let mut at: usize = 0;
     let mut s: u16 = 0;
     while s < signals {
         s += 1;
-        let value = machine::value_of(panel, memory, s);
+        let value = machine_run::value_of(panel, memory, s);
         at = write_change(time, s, value, at, shown, out);
     }
     at
@@ -180,7 +180,7 @@ fn run_one(
     requires { ⌜ (fed ≡ false → InPanel (now panel) (headOf session)) ⌝ }
     ensures { λ r. ⌜ headOf r ≡ cycled (headOf session) ⌝ }
     ensures { λ _. ⌜ now (panel .exit) ≡ withHead (headOf session) (now (panel .entry)) ⌝ }
-    ensures { λ _. ⌜ now (memory .exit) ≡ held (processorsIn (now (panel .entry))) (slotsIn (now (panel .entry))) (cycleIn (withHead (headOf session) (now (panel .entry))) (now (program .entry)) (memoryOf (now (memory .entry)))) (now (memory .entry)) ⌝ }
+    ensures { λ _. ⌜ now (memory .exit) ≡ withMemory (processorsIn (now (panel .entry))) (slotsIn (now (panel .entry))) (cycleIn (withHead (headOf session) (now (panel .entry))) (now (program .entry)) (memoryOf (now (memory .entry)))) (now (memory .entry)) ⌝ }
 {
     write_back(session, fed, panel);
     let told = session.run(panel, program, memory, 1);
@@ -190,7 +190,7 @@ fn run_one(
 // Opens the listing of accepted files, `lines` being the lines before STIM's end line. No value is shown yet.
 pub fn open(
     net: &[u8],
-    table: &[u8],
+    modfile: &[u8],
     stim: &[u8],
     lines: u16,
     panel: &mut [u8],
@@ -198,14 +198,14 @@ pub fn open(
     memory: &mut [u8],
     shown: &mut [u8],
 ) -> Lister
-    requires { ⌜ Accepted panelLimit (record { NET = now net; MOD = now table; STIM = now stim }) ⌝ }
+    requires { ⌜ Accepted panelLimit (record { NET = now net; MOD = now modfile; STIM = now stim }) ⌝ }
     requires { ⌜ lines ≡ stimCount (now stim) ⌝ }
     requires { ⌜ (length (now panel) ≡ panelLength) × (length (now program) ≡ programLength) × (length (now memory) ≡ memoryLength) × (length (now shown) ≡ shownLength) ⌝ }
-    ensures { λ r. ⌜ Stands (record { NET = now (net .entry); MOD = now (table .entry); STIM = now (stim .entry) }) 0 r (now (stim .entry)) (now (panel .exit)) (now (program .exit)) (now (memory .exit)) (now (shown .exit)) ⌝ }
+    ensures { λ r. ⌜ Stands (record { NET = now (net .entry); MOD = now (modfile .entry); STIM = now (stim .entry) }) 0 r (now (stim .entry)) (now (panel .exit)) (now (program .exit)) (now (memory .exit)) (now (shown .exit)) ⌝ }
 {
-    loading::load(net, table, stim, panel, program, memory);
-    loading::fill(shown, 4);
-    let session = header::decode(panel);
+    buffers_load::load(net, modfile, stim, panel, program, memory);
+    buffers_load::fill(shown, 4);
+    let session = session_state::decode(panel);
     let cursor = first_later(stim);
     let end = end_time(stim, lines);
     Lister {

@@ -24,7 +24,7 @@ use Rattle.model.specs.Acceptance.{Accepted, networkOf, fileCheck}
 use Rattle.model.specs.Network.{Network, Signal, input, unitDelay, rankOrder, isSignal}
 use Rattle.model.specs.Netlist.{netLine, netField, netSize, network, tenZeros, inputLayout, gateLayout, sourceRight, sourcesRight, netHeader, netSignal, netSurplus, netCheck}
 use Rattle.model.specs.Module.{Module, At, localPresent, switchPresent, noPart, noSender, placements}
-use Rattle.model.specs.Schedule.{modLine, modField, modProcessors, modSlots, modIndex, moduleOf, modHeader, locationLayout, operandLayout, sendLayout, senderLayout, lineLayout, modSlot, eachLine, modSurplus, placed, sending, receiving, operands, modCheck}
+use Rattle.model.specs.ModuleFile.{modLine, modField, modProcessors, modSlots, modIndex, moduleOf, modHeader, locationLayout, operandLayout, sendLayout, senderLayout, lineLayout, modSlot, eachLine, modSurplus, placed, sending, receiving, operands, modCheck}
 use Rattle.model.specs.Stimulus.{stimLine, stimTime, stimSignal, stimValue, stimLimit, isEnd, timeBefore, rising, givesValue, mayGive, stimGiven, stimEnd, stimLines, stimCheck, linesBefore, stimCount, lastGiven, held}
 use Rattle.model.proofs.Conditions.{Formed, Scheduled}
 use Rattle.model.proofs.Refusals.{first-left, first-right, unless-true, below-pass}
@@ -166,15 +166,15 @@ pub record Located (m : Module) (most part location : ℕ) : Type 0 where
   pub none-at-0 : part ≡ noPart → location ≡ 0
 
 -- The line of processor p and slot i
-pub record SlotRight (n : Network) (table : List ℕ) (p i : ℕ) : Type 0 where
-  pub line : isLineAt table (modLine (modIndex table p i)) 14 ≡ true
-  pub processor : modField table (modIndex table p i) 0 ≡ p
-  pub slot : modField table (modIndex table p i) 1 ≡ i
-  pub signal : moduleOf table .signal p i ≤ n .size
+pub record SlotRight (n : Network) (modfile : List ℕ) (p i : ℕ) : Type 0 where
+  pub line : isLineAt modfile (modLine (modIndex modfile p i)) 14 ≡ true
+  pub processor : modField modfile (modIndex modfile p i) 0 ≡ p
+  pub slot : modField modfile (modIndex modfile p i) 1 ≡ i
+  pub signal : moduleOf modfile .signal p i ≤ n .size
   pub operand : (j : ℕ) → j < 4
-      → Located (moduleOf table) switchPresent (moduleOf table .part p i j) (moduleOf table .location p i j)
-  pub send : Located (moduleOf table) localPresent (moduleOf table .sendPart p i) (moduleOf table .sendLocation p i)
-  pub sender : (moduleOf table .sender p i < moduleOf table .processors) ⊎ (moduleOf table .sender p i ≡ noSender)
+      → Located (moduleOf modfile) switchPresent (moduleOf modfile .part p i j) (moduleOf modfile .location p i j)
+  pub send : Located (moduleOf modfile) localPresent (moduleOf modfile .sendPart p i) (moduleOf modfile .sendLocation p i)
+  pub sender : (moduleOf modfile .sender p i < moduleOf modfile .processors) ⊎ (moduleOf modfile .sender p i ≡ noSender)
 
 located : (m : Module) (most part k : ℕ) → (leb part most or eqb part noPart) and locationLayout m part k ≡ true → Located m most part k
 unfolding locationLayout
@@ -187,20 +187,20 @@ located m most part k layout =
     }
 
 -- a check of each line after the first, at one of them: line k + 1 is that of processor k / C and slot k % C
-pub at-pass : (table : List ℕ) (f : ℕ → ℕ → Check) → eachLine table f ≡ pass → (p i : ℕ) → At (moduleOf table) p i → f p i ≡ pass
+pub at-pass : (modfile : List ℕ) (f : ℕ → ℕ → Check) → eachLine modfile f ≡ pass → (p i : ℕ) → At (moduleOf modfile) p i → f p i ≡ pass
 unfolding eachLine moduleOf
-at-pass table f h p i a =
-    let C = modSlots table in
+at-pass modfile f h p i a =
+    let C = modSlots modfile in
     let positive : 0 < C = omega (arith, a .slot) in
     let quotient : (p * C + i) / C ≡ p = omega (arith, mul-add-div-right positive p i, div-eq-of-lt (a .slot)) in
     let remainder : (p * C + i) % C ≡ i = mul-add-mod-self-right p C i ∙ mod-eq-of-lt (a .slot) in
-    let low : p * C + i < modProcessors table * C = omega (arith, suc-mul p C, mul-le-mul-right C (a .processor), a .slot) in
+    let low : p * C + i < modProcessors modfile * C = omega (arith, suc-mul p C, mul-le-mul-right C (a .processor), a .slot) in
     subst₂ (λ (x y : ℕ). f x y ≡ pass) quotient remainder (below-pass _ _ h (p * C + i) low)
 
 -- a line that passes 20 and 21 is right
-pub slot-right : (n : Network) (table : List ℕ) (p i : ℕ) → modSlot n table p i ≡ pass → SlotRight n table p i
+pub slot-right : (n : Network) (modfile : List ℕ) (p i : ℕ) → modSlot n modfile p i ≡ pass → SlotRight n modfile p i
 unfolding modSlot lineLayout operandLayout sendLayout senderLayout
-slot-right n table p i h =
+slot-right n modfile p i h =
     let layout = unless-true _ _ _ (first-right _ _ h) in
     let from-slot = and-right _ _ layout in
     let from-signal = and-right _ _ from-slot in
@@ -216,49 +216,49 @@ slot-right n table p i h =
       sender = ⊎-map (ltb-true _ _) (eqb-true _ _) (or-cases _ _ (and-right _ _ from-send));
     }
 
-module _ (n : Network) (table : List ℕ) (accepted : modCheck n table ≡ pass) where
-  mod-header : modHeader table ≡ pass
+module _ (n : Network) (modfile : List ℕ) (accepted : modCheck n modfile ≡ pass) where
+  mod-header : modHeader modfile ≡ pass
   unfolding modCheck
   mod-header = first-left _ _ accepted
 
-  mod-slots-pass : eachLine table (modSlot n table) ≡ pass
+  mod-slots-pass : eachLine modfile (modSlot n modfile) ≡ pass
   unfolding modCheck
   mod-slots-pass = first-left _ _ (first-right _ _ accepted)
 
-  pub mod-processors : (1 ≤ modProcessors table) × (modProcessors table ≤ 16)
+  pub mod-processors : (1 ≤ modProcessors modfile) × (modProcessors modfile ≤ 16)
   unfolding modHeader
   mod-processors = within (and-left _ _ (unless-true _ _ _ (first-right _ _ mod-header)))
 
-  pub mod-slots : (1 ≤ modSlots table) × (modSlots table ≤ 256)
+  pub mod-slots : (1 ≤ modSlots modfile) × (modSlots modfile ≤ 256)
   unfolding modHeader
   mod-slots = within (and-left _ _ (and-right _ _ (unless-true _ _ _ (first-right _ _ mod-header))))
 
-  pub mod-slot : (p i : ℕ) → At (moduleOf table) p i → SlotRight n table p i
-  mod-slot p i a = slot-right n table p i (at-pass table (modSlot n table) mod-slots-pass p i a)
+  pub mod-slot : (p i : ℕ) → At (moduleOf modfile) p i → SlotRight n modfile p i
+  mod-slot p i a = slot-right n modfile p i (at-pass modfile (modSlot n modfile) mod-slots-pass p i a)
 
-  pub mod-lines : (index : ℕ) → index ≤ modProcessors table * modSlots table → isLineAt table (modLine index) 14 ≡ true
+  pub mod-lines : (index : ℕ) → index ≤ modProcessors modfile * modSlots modfile → isLineAt modfile (modLine index) 14 ≡ true
   unfolding modHeader eachLine modSlot
   mod-lines zero h = unless-true _ _ _ (first-left _ _ mod-header)
   mod-lines (suc k) h =
-      let C = modSlots table in
+      let C = modSlots modfile in
       let e : 1 + k / C * C + k % C ≡ suc k = omega (arith, div-add-mod' k C) in
-      subst (λ (x : ℕ). isLineAt table (modLine x) 14 ≡ true) e (unless-true _ _ _ (first-left _ _ (below-pass _ _ mod-slots-pass k h)))
+      subst (λ (x : ℕ). isLineAt modfile (modLine x) 14 ≡ true) e (unless-true _ _ _ (first-left _ _ (below-pass _ _ mod-slots-pass k h)))
 
-  pub mod-length : length table ≡ modLine (modProcessors table * modSlots table + 1)
+  pub mod-length : length modfile ≡ modLine (modProcessors modfile * modSlots modfile + 1)
   unfolding modCheck modSurplus
   mod-length =
-      let last = modProcessors table * modSlots table in
+      let last = modProcessors modfile * modSlots modfile in
       let surplus = unless-true _ _ _ (first-left _ _ (first-right _ _ (first-right _ _ accepted))) in
-      let most = leb-true (length table) (modLine (last + 1)) surplus in
-      omega (arith, line-within table (modLine last) 14 (mod-lines last (omega arith)))
+      let most = leb-true (length modfile) (modLine (last + 1)) surplus in
+      omega (arith, line-within modfile (modLine last) 14 (mod-lines last (omega arith)))
 
-  once : (s : ℕ) → Signal n s → placed n (moduleOf table) ≡ pass → placements (moduleOf table) s ≡ 1
+  once : (s : ℕ) → Signal n s → placed n (moduleOf modfile) ≡ pass → placements (moduleOf modfile) s ≡ 1
   unfolding placed
   once s g h =
       eqb-true _ _ (unless-true _ _ _
-      (signal-pass (n .size) (λ s. unless (eqb (placements (moduleOf table) s) 1) 22 s) h s (g .low) (g .high)))
+      (signal-pass (n .size) (λ s. unless (eqb (placements (moduleOf modfile) s) 1) 22 s) h s (g .low) (g .high)))
 
-  pub mod-scheduled : Scheduled n (moduleOf table)
+  pub mod-scheduled : Scheduled n (moduleOf modfile)
   unfolding modCheck sending receiving operands
   mod-scheduled =
       let from-placed = first-right _ _ (first-right _ _ (first-right _ _ accepted)) in
@@ -273,10 +273,10 @@ module _ (n : Network) (table : List ℕ) (accepted : modCheck n table ≡ pass)
           send-locations = λ p i a. mod-slot p i a .send .low;
           senders = λ p i a. mod-slot p i a .sender;
         };
-        places = λ s g. placed-once (moduleOf table) s (once s g (first-left _ _ from-placed));
-        sends = λ p i a. unless-true _ _ _ (at-pass table _ (first-left _ _ from-sending) p i a);
-        receptions = λ p i a. unless-true _ _ _ (at-pass table _ (first-left _ _ from-receiving) p i a);
-        operands = λ p i j a l. unless-true _ _ _ (below-pass 4 _ (at-pass table _ (first-right _ _ from-receiving) p i a) j l);
+        places = λ s g. placed-once (moduleOf modfile) s (once s g (first-left _ _ from-placed));
+        sends = λ p i a. unless-true _ _ _ (at-pass modfile _ (first-left _ _ from-sending) p i a);
+        receptions = λ p i a. unless-true _ _ _ (at-pass modfile _ (first-left _ _ from-receiving) p i a);
+        operands = λ p i j a l. unless-true _ _ _ (below-pass 4 _ (at-pass modfile _ (first-right _ _ from-receiving) p i a) j l);
       }
 
 -- STIM

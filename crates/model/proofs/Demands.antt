@@ -14,7 +14,7 @@ use Rattle.model.specs.Value.{start, Follows, VAL, FollowsAlways}
 use Rattle.model.specs.Module.{Module, At}
 use Rattle.model.specs.Machine.{Memory, opening, after}
 use Rattle.model.specs.Stimulus.{held, endTime}
-use Rattle.model.specs.Acceptance.{networkOf, scheduleOf, givenOf, Accepted}
+use Rattle.model.specs.Acceptance.{networkOf, moduleOfFiles, givenOf, Accepted}
 use Rattle.model.specs.Session.{lockstep, Head, fresh, Lengths, Lent, Answer, Outcome, outcome, plainAfter}
 use Rattle.model.specs.Listing.{valueAt, joined, listedFirst, listedChange, listedCycle, listingOf, listing, printedFor, printed}
 use Rattle.model.specs.Demands.{Demand2, Places, Working, Trace, end, next, Demand3}
@@ -60,7 +60,7 @@ module _ (limit : ℕ) (files : Files) (accepted : Accepted limit files) where
   pub accepted-acyclic : Acyclic (networkOf files)
   accepted-acyclic = net-acyclic limit (files .NET) (net-accepted limit files accepted)
 
-  pub accepted-scheduled : Scheduled (networkOf files) (scheduleOf files)
+  pub accepted-scheduled : Scheduled (networkOf files) (moduleOfFiles files)
   accepted-scheduled = mod-scheduled (networkOf files) (files .MOD) (mod-accepted limit files accepted)
 
   -- VAL of the files follows the rules of 01
@@ -80,8 +80,8 @@ module _ (limit : ℕ) (files : Files) (accepted : Accepted limit files) where
 
   -- after every cycle, whatever the inputs, the place of every signal holds VAL
   pub places-hold-VAL : (rows : List (ℕ → ℕ))
-      → Places (networkOf files) (scheduleOf files)
-      (after (networkOf files) (scheduleOf files) (opening (scheduleOf files) (start (networkOf files) (givenOf files))) rows)
+      → Places (networkOf files) (moduleOfFiles files)
+      (after (networkOf files) (moduleOfFiles files) (opening (moduleOfFiles files) (start (networkOf files) (givenOf files))) rows)
       (VAL (networkOf files) (givenOf files) rows)
   places-hold-VAL = machine-holds-VAL accepted-formed accepted-acyclic accepted-scheduled (givenOf files)
 
@@ -120,12 +120,12 @@ like-refl n h = record { finished = refl; hand = λ s g k. refl; watch = refl }
 -- Demand 3 without any premise on a trace: from the opening on accepted files, for every list of calls
 module _ (limit : ℕ) (files : Files) (accepted : Accepted limit files) (fixed : Lengths) (processor slot : ℕ → ℕ)
     (placed : (s : ℕ) → Signal (networkOf files) s
-    → At (scheduleOf files) (processor s) (slot s) × (scheduleOf files .signal (processor s) (slot s) ≡ s)) where
+    → At (moduleOfFiles files) (processor s) (slot s) × (moduleOfFiles files .signal (processor s) (slot s) ≡ s)) where
   abbrev pub opened : Working
-  opened = record { head = fresh (givenOf files); memory = opening (scheduleOf files) (start (networkOf files) (givenOf files)) }
+  opened = record { head = fresh (givenOf files); memory = opening (moduleOfFiles files) (start (networkOf files) (givenOf files)) }
 
-  performs-met : (b : Working) (c : Lent) (a : Answer) (b′ : Working) → Performs fixed (networkOf files) (scheduleOf files) processor slot b c a b′
-      → Met (λ w. w) fixed (networkOf files) (scheduleOf files) processor slot (Near (scheduleOf files)) b c a b′
+  performs-met : (b : Working) (c : Lent) (a : Answer) (b′ : Working) → Performs fixed (networkOf files) (moduleOfFiles files) processor slot b c a b′
+      → Met (λ w. w) fixed (networkOf files) (moduleOfFiles files) processor slot (Near (moduleOfFiles files)) b c a b′
   performs-met b c a b′ p =
       record {
         answer = p .answer;
@@ -135,19 +135,19 @@ module _ (limit : ℕ) (files : Files) (accepted : Accepted limit files) (fixed 
 
   -- whichever values follow the rules of VAL
   pub session-demand-3 : (table : List (ℕ → ℕ) → ℕ → ℕ) → FollowsAlways (networkOf files) (givenOf files) table → (cs : List Lent)
-      → Demand3 (Performs fixed (networkOf files) (scheduleOf files) processor slot) (λ w. w) fixed (networkOf files) (scheduleOf files) (givenOf files) table
-      (folded fixed (networkOf files) (scheduleOf files) processor slot opened cs) []
+      → Demand3 (Performs fixed (networkOf files) (moduleOfFiles files) processor slot) (λ w. w) fixed (networkOf files) (moduleOfFiles files) (givenOf files) table
+      (folded fixed (networkOf files) (moduleOfFiles files) processor slot opened cs) []
   unfolding fresh network plainAfter
   session-demand-3 table follows cs =
       let formed = accepted-formed limit files accepted in
       let acyclic = accepted-acyclic limit files accepted in
       let ok = accepted-scheduled limit files accepted in
       let size = net-size limit (files .NET) (net-accepted limit files accepted) in
-      demand-3 (λ w. w) fixed (networkOf files) (scheduleOf files) processor slot (Near (scheduleOf files)) (givenOf files) table
+      demand-3 (λ w. w) fixed (networkOf files) (moduleOfFiles files) processor slot (Near (moduleOfFiles files)) (givenOf files) table
       (keeps formed acyclic ok (givenOf files) table follows processor slot placed) (kept-table formed acyclic ok (givenOf files) table follows)
       (kept-near formed acyclic ok (givenOf files))
-      (Performs fixed (networkOf files) (scheduleOf files) processor slot) (λ b. Unit {0}) (λ b c a b′ g. performs-met b c a b′) (λ b c a b′ g p. tt)
-      (folded fixed (networkOf files) (scheduleOf files) processor slot opened cs) []
+      (Performs fixed (networkOf files) (moduleOfFiles files) processor slot) (λ b. Unit {0}) (λ b c a b′ g. performs-met b c a b′) (λ b c a b′ g p. tt)
+      (folded fixed (networkOf files) (moduleOfFiles files) processor slot opened cs) []
       (record {
         good = tt;
         head = like-refl (networkOf files) (fresh (givenOf files));
@@ -166,11 +166,11 @@ module _ (limit : ℕ) (files : Files) (accepted : Accepted limit files) where
   placeOf s = place s (isSignal (networkOf files) s) refl
 
   pub placed-there : (s : ℕ) → Signal (networkOf files) s
-      → At (scheduleOf files) (placeOf s .0) (placeOf s .1) × (scheduleOf files .signal (placeOf s .0) (placeOf s .1) ≡ s)
+      → At (moduleOfFiles files) (placeOf s .0) (placeOf s .1) × (moduleOfFiles files .signal (placeOf s .0) (placeOf s .1) ≡ s)
   unfolding placeOf place
   placed-there s g = go (isSignal (networkOf files) s) refl (signal-test (networkOf files) s g)
     where
       go : (b : Bool) (e : isSignal (networkOf files) s ≡ b) → b ≡ true
-          → At (scheduleOf files) (place s b e .0) (place s b e .1) × (scheduleOf files .signal (place s b e .0) (place s b e .1) ≡ s)
+          → At (moduleOfFiles files) (place s b e .0) (place s b e .1) × (moduleOfFiles files .signal (place s b e .0) (place s b e .1) ≡ s)
       go true e t = let p = accepted-scheduled limit files accepted .places s (signal-true (networkOf files) s e) in (p .at, p .is)
       go false e t = absurd (false≢true t)

@@ -15,7 +15,7 @@ use Rattle.model.specs.Network.{isSignal}
 use Rattle.model.specs.Netlist.{network, tenZeros, netHeader, inputLayout, gateLayout, sourceRight, sourcesRight, netSignal, netSurplus, feeds, chains, onClosedChain, netChains, netCheck}
 use Rattle.model.specs.Value.{evaluate, start, driven, settle, next, VAL, history}
 use Rattle.model.specs.Module.{placements, sendRight, receptionRight, reads, mustBeNone, operandRight}
-use Rattle.model.specs.Schedule.{moduleOf, modHeader, locationLayout, operandLayout, sendLayout, senderLayout, lineLayout, modSlot, eachLine, modSurplus, placed, sending, receiving, operands, modCheck}
+use Rattle.model.specs.ModuleFile.{moduleOf, modHeader, locationLayout, operandLayout, sendLayout, senderLayout, lineLayout, modSlot, eachLine, modSurplus, placed, sending, receiving, operands, modCheck}
 use Rattle.model.specs.Stimulus.{isEnd, timeBefore, rising, givesValue, mayGive, stimGiven, stimEnd, stimLines, stimCheck, linesBefore, stimCount, endTime, lastGiven, held}
 use Rattle.model.specs.Acceptance.{fileCheck}
 use Rattle.model.specs.Listing.{valueAt, joined, listedFirst, listedChange, listedCycle, listingOf, listing, refusalLine, printedFor, printed}

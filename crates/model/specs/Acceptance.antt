@@ -6,7 +6,7 @@ use Rattle.model.specs.Files.{Files}
 use Rattle.model.specs.Network.{Network}
 use Rattle.model.specs.Netlist.{network, netCheck}
 use Rattle.model.specs.Module.{Module}
-use Rattle.model.specs.Schedule.{moduleOf, modCheck}
+use Rattle.model.specs.ModuleFile.{moduleOf, modCheck}
 use Rattle.model.specs.Stimulus.{stimCheck, held}
 
 -- the limit on N of the panel and the program (01, Files: "N (1 to 4096)")
@@ -16,8 +16,8 @@ panelLimit = 4096
 abbrev pub networkOf : Files → Network
 networkOf files = network (files .NET)
 
-abbrev pub scheduleOf : Files → Module
-scheduleOf files = moduleOf (files .MOD)
+abbrev pub moduleOfFiles : Files → Module
+moduleOfFiles files = moduleOf (files .MOD)
 
 -- time 0: each signal's given value, or U
 abbrev pub givenOf : Files → ℕ → ℕ

@@ -4,7 +4,7 @@ pub mod Network
 pub mod Netlist
 pub mod Value
 pub mod Module
-pub mod Schedule
+pub mod ModuleFile
 pub mod Stimulus
 pub mod Acceptance
 pub mod Machine

@@ -4,9 +4,9 @@ use mathlib.Core.Path.{_≡_, refl, sym}
 use lib.ListN.{length}
 use native.Mathlib.Omega.{arith}
 use borrow.Author.Needs.{needs}
-use Rattle.memory.specs.Memory.{memoryLength}
-use Rattle.tables.specs.Panel.{panelLength}
-use Rattle.tables.specs.Program.{programLength}
+use Rattle.buffers_memory.specs.Memory.{memoryLength}
+use Rattle.buffers_tables.specs.Panel.{panelLength}
+use Rattle.buffers_tables.specs.Program.{programLength}
 use Rattle.listing.specs.Changes.{pieceLength}
 use Rattle.cavundir.specs.Handing.{filesOf}
 use Rattle.cavundir.proofs.Parts.{prefix-length}
@@ -15,11 +15,11 @@ use Rattle.cavundir.proofs.print_listing.Statement.{statement}
 use Rattle.cavundir.proofs.print_listing.Tie as tie
 
 abbrev Inv-loop : tie.InvT-loop
-Inv-loop net table stim lines parts₀ failed₀ panel₀ program memory₀ shown₀ piece₀ lister₀ count counter₀ parts failed panel memory shown piece lister counter =
-    Underway (filesOf net table stim) count lister stim panel program memory shown piece parts failed counter
+Inv-loop net modfile stim lines parts₀ failed₀ panel₀ program memory₀ shown₀ piece₀ lister₀ count counter₀ parts failed panel memory shown piece lister counter =
+    Underway (filesOf net modfile stim) count lister stim panel program memory shown piece parts failed counter
 
 abbrev μ-loop : tie.MeasureT-loop
-μ-loop net table stim lines parts₀ failed₀ panel₀ program memory₀ shown₀ piece₀ lister₀ count counter₀ parts failed panel memory shown piece lister counter =
+μ-loop net modfile stim lines parts₀ failed₀ panel₀ program memory₀ shown₀ piece₀ lister₀ count counter₀ parts failed panel memory shown piece lister counter =
     count - counter
 
 panel-buffer-requires : tie.Need-panel-buffer-requires Inv-loop μ-loop

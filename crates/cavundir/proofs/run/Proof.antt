@@ -1,10 +1,10 @@
 -- Each check has what it asks for, a refusal is the first of the files read, and the listing is of accepted files.
 use mathlib.Core.Path.{sym, _∙_}
 use Rattle.model.proofs.Refusals.{pass-not-fail}
-use Rattle.netlist.proofs.Joined.{refusal-of, stage-pass}
-use Rattle.schedule.proofs.Told.{not-accepted}
-use Rattle.schedule.proofs.Stages.{passed}
-use Rattle.checks.proofs.Joined.{net-stops, mod-stops, stim-last}
+use Rattle.file_net.proofs.Joined.{refusal-of, stage-pass}
+use Rattle.file_mod_lines.proofs.Told.{not-accepted}
+use Rattle.file_mod_lines.proofs.Stages.{passed}
+use Rattle.file_checks.proofs.Joined.{net-stops, mod-stops, stim-last}
 use Rattle.cavundir.proofs.Parts.{prefix-length}
 use Rattle.cavundir.proofs.Accepting.{all-accepted, mod-refuses, stim-refuses}
 use borrow.Author.Needs.{needs}

@@ -1,7 +1,7 @@
 -- T stands in the line that the count of lines names.
 use mathlib.Core.Path.{sym, _∙_}
 use native.Mathlib.Omega.{arith}
-use Rattle.stimulus.proofs.Steps.{line-right, given-at, end-at}
+use Rattle.file_stim.proofs.Steps.{line-right, given-at, end-at}
 use borrow.Author.Needs.{needs}
 use Rattle.listing.proofs.end_time.Statement.{statement}
 use Rattle.listing.proofs.end_time.Tie as tie

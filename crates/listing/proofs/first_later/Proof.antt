@@ -4,7 +4,7 @@ use mathlib.Core.Path.{sym, _∙_}
 use native.Mathlib.Omega.{arith}
 use borrow.Author.Needs.{needs}
 use Rattle.model.specs.Stimulus.{stimCount}
-use Rattle.stimulus.proofs.Steps.{line-right, given-at, end-at}
+use Rattle.file_stim.proofs.Steps.{line-right, given-at, end-at}
 use Rattle.listing.proofs.Feeding.{Skipped, skipped-more}
 use Rattle.listing.proofs.first_later.Statement.{statement}
 use Rattle.listing.proofs.first_later.Tie as tie

@@ -5,8 +5,8 @@ use mathlib.Core.List.{[]}
 use native.Mathlib.Omega.{arith}
 use borrow.Author.Needs.{needs}
 use Rattle.model.specs.Stimulus.{stimCount}
-use Rattle.header.specs.Header.{headOf}
-use Rattle.stimulus.proofs.Steps.{line-right, given-at, end-at}
+use Rattle.session_state.specs.Header.{headOf}
+use Rattle.file_stim.proofs.Steps.{line-right, given-at, end-at}
 use Rattle.listing.specs.Feeding.{Fed}
 use Rattle.listing.proofs.Feeding.{fed-starts, fed-more}
 use Rattle.listing.proofs.take_settings.Statement.{statement}

@@ -1,0 +1,49 @@
+-- The lengths one by one, and all of them.
+use Prim.Native.Nat.{ℕ}
+use mathlib.Core.Path.{_≡_}
+use mathlib.Core.Bool.{Bool, true, false}
+use lib.Dec.{eqb}
+use borrow.Author.Tests.{eqb-true, eq-eqb, ne-eqb}
+use Rattle.logic.specs.Test.{_and_}
+use Rattle.logic.proofs.Tests.{and-left, and-right}
+use Rattle.model.specs.Session.{sameLengths}
+use Rattle.buffers_memory.specs.Memory.{memoryLength}
+use Rattle.buffers_tables.specs.Panel.{panelLength}
+use Rattle.buffers_tables.specs.Program.{programLength}
+use Rattle.buffers_lengths.specs.Lengths.{fixed}
+
+module _ (a b c : ℕ) where
+  abbrev same : Bool
+  same = sameLengths (record { panel = a; program = b; memory = c }) fixed
+
+  pub wrong-panel : (a ≡ panelLength → ⊥) → false ≡ same
+  unfolding sameLengths _and_
+  wrong-panel d = rw (ne-eqb a panelLength d)
+
+  pub wrong-program : a ≡ panelLength → (b ≡ programLength → ⊥) → false ≡ same
+  unfolding sameLengths _and_
+  wrong-program e d = rw (eq-eqb a panelLength e, ne-eqb b programLength d)
+
+  pub by-memory : a ≡ panelLength → b ≡ programLength → eqb c memoryLength ≡ same
+  unfolding sameLengths _and_
+  by-memory e f = rw (eq-eqb a panelLength e, eq-eqb b programLength f)
+
+-- the fixed lengths, one by one
+pub record Sizes (a b c : ℕ) : Type 0 where
+  pub panel-size : a ≡ panelLength
+  pub program-size : b ≡ programLength
+  pub memory-size : c ≡ memoryLength
+
+module _ (a b c : ℕ) where
+  pub sizes-same : Sizes a b c → same a b c ≡ true
+  unfolding sameLengths _and_
+  sizes-same h = rw (eq-eqb _ _ (h .panel-size), eq-eqb _ _ (h .program-size), eq-eqb _ _ (h .memory-size))
+
+  pub same-sizes : same a b c ≡ true → Sizes a b c
+  unfolding sameLengths
+  same-sizes e =
+      record {
+        panel-size = eqb-true _ _ (and-left _ _ e);
+        program-size = eqb-true _ _ (and-left _ _ (and-right _ _ e));
+        memory-size = eqb-true _ _ (and-right _ _ (and-right _ _ e));
+      }

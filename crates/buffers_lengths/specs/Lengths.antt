@@ -1,0 +1,15 @@
+-- 40 (01, Refusals): "a lent buffer's length differs from the fixed one that docs/ gives it"
+use Prim.Native.Nat.{ℕ}
+use mathlib.Core.List.{List}
+use lib.ListN.{length}
+use Rattle.model.specs.Session.{Lengths}
+use Rattle.buffers_memory.specs.Memory.{memoryLength}
+use Rattle.buffers_tables.specs.Panel.{panelLength}
+use Rattle.buffers_tables.specs.Program.{programLength}
+
+-- the lengths that docs/PANEL.md gives the working buffers, and those of three lists
+abbrev pub fixed : Lengths
+fixed = record { panel = panelLength; program = programLength; memory = memoryLength }
+
+abbrev pub lengthsLent : List ℕ → List ℕ → List ℕ → Lengths
+lengthsLent panel program memory = record { panel = length panel; program = length program; memory = length memory }

@@ -1,0 +1,149 @@
+-- The buffers by arrays of lines and values are the buffers by the files: only the signals 1 to N are read from the arrays.
+use Prim.Native.Nat.{ℕ, zero, suc, _/_, _%_, _<_, _≤_}
+use mathlib.Core.Path.{_≡_, refl, sym, _∙_, ap}
+use mathlib.Core.Bool.{Bool, true, false}
+use mathlib.Core.List.{List}
+use native.Mathlib.Omega.{arith}
+use native.Mathlib.Decide.{ℕ-discrete}
+use lib.ListN.{length, getD}
+use borrow.Author.Tests.{le-leb, ltb-true}
+use Rattle.logic.specs.Test.{_and_}
+use Rattle.logic.specs.Listed.{listed}
+use Rattle.logic.proofs.Listed.{listed-length, listed-at, is-listed}
+use Rattle.logic.proofs.Tests.{and-left, and-right}
+use Rattle.model.specs.Refusal.{pass}
+use Rattle.model.specs.Network.{isSignal}
+use Rattle.model.specs.Netlist.{netSize, network, netCheck}
+use Rattle.model.specs.Value.{valueOf, start}
+use Rattle.model.specs.Module.{noSender}
+use Rattle.model.specs.ModuleFile.{modField, modIndex, modProcessors, modSlots, moduleOf, modCheck}
+use Rattle.model.specs.Stimulus.{held as given}
+use Rattle.model.proofs.Accepted.{net-size, mod-slot}
+use Rattle.buffers_memory.specs.Memory.{memoryLength, within, written}
+use Rattle.buffers_memory.proofs.Written.{Place}
+use Rattle.buffers_tables.specs.Panel.{panelLength}
+use Rattle.buffers_load.specs.Loaded.{timeZero, placeOf, panelByte, panelWith, panelOf, openingWith, openingBytes}
+use Rattle.buffers_load.specs.Checked.{ModuleChecked}
+use Rattle.buffers_load.specs.Values.{valueIn, sentValue, openingByte}
+use Rattle.buffers_load.proofs.Fields.{is-at}
+use Rattle.buffers_load.proofs.Panel.{panel-same}
+use Rattle.buffers_load.proofs.Memory.{place-there, byte-outside, byte-local, byte-sent-earlier, byte-sent-present, byte-other, nothing-sent, something-sent, sender-below, location-below}
+
+listed-same : (n : ℕ) (f g : ℕ → ℕ) → ((i : ℕ) → i < n → f i ≡ g i) → listed n f ≡ listed n g
+listed-same n f g h = is-listed (listed n f) n g (listed-length n f) (λ i b. listed-at n f i b ∙ h i b)
+
+pub schedules : (net modfile : List ℕ) → netCheck 4096 net ≡ pass → modCheck (network net) modfile ≡ pass → ModuleChecked modfile
+unfolding network
+schedules net modfile n m = record { network = network net; few = net-size 4096 net n .1; passes = m }
+
+-- the time 0 value of a signal, and of none
+module _ (net stim : List ℕ) where
+  zero-is : timeZero net stim 0 ≡ 0
+  unfolding timeZero isSignal _and_
+  zero-is = refl
+
+  pub zeroth-is : (s : ℕ) → 1 ≤ s → s ≤ netSize net → timeZero net stim s ≡ start (network net) (given stim 0) s
+  unfolding timeZero isSignal _and_ network
+  zeroth-is s l h = rw (le-leb 1 s l, le-leb s (netSize net) h)
+
+-- an array of so many numbers
+array-at : (f : ℕ → ℕ) (l : List ℕ) → l ≡ listed 4097 f → (s : ℕ) → s < 4097 → getD l s 0 ≡ f s
+array-at f l e s h = ap (λ (x : List ℕ). getD x s 0) e ∙ listed-at 4097 f s h
+
+in-array : (net : List ℕ) → netCheck 4096 net ≡ pass → (s : ℕ) → s ≤ netSize net → s < 4097
+in-array net accepted s h = omega (arith, net-size 4096 net accepted)
+
+pub panel-placed : (net modfile : List ℕ) → netCheck 4096 net ≡ pass → (P C : ℕ) (places : List ℕ) (hand : ℕ → ℕ) → P ≡ modProcessors modfile
+    → C ≡ modSlots modfile → places ≡ listed 4097 (placeOf modfile)
+    → (panel : List ℕ) → panel ≡ listed panelLength (λ a. panelByte net P C (valueIn places) hand (a / 10) (a % 10))
+    → panel ≡ panelWith net modfile hand
+unfolding panelWith
+panel-placed net modfile accepted P C places hand p c e panel is =
+    is
+    ∙ rw (p, c)
+    (listed-same panelLength _ _
+    (λ a b. panel-same net (modProcessors modfile) (modSlots modfile) (valueIn places) hand (a % 10) (placeOf modfile) hand
+    (λ s l h. array-at (placeOf modfile) places e s (in-array net accepted s h)) (λ s l h. refl) (a / 10)))
+
+-- the array of the time 0 values
+module _ (net stim values : List ℕ) (e : values ≡ listed 4097 (timeZero net stim)) where
+  pub values-size : length values ≡ 4097
+  values-size = ap length e ∙ listed-length 4097 _
+
+  pub values-none : getD values 0 0 ≡ 0
+  values-none = array-at (timeZero net stim) values e 0 (omega arith) ∙ zero-is net stim
+
+  module _ (accepted : netCheck 4096 net ≡ pass) (modfile : List ℕ) where
+    pub panel-zeroth : panelWith net modfile (valueIn values) ≡ panelOf net modfile stim
+    unfolding panelOf panelWith
+    panel-zeroth =
+        listed-same panelLength _ _
+        (λ a b. panel-same net (modProcessors modfile) (modSlots modfile) (placeOf modfile) (valueIn values) (a % 10) (placeOf modfile) (timeZero net stim)
+        (λ s l h. refl) (λ s l h. array-at (timeZero net stim) values e s (in-array net accepted s h)) (a / 10))
+
+    value-same : (s : ℕ) → s ≤ netSize net → valueOf (valueIn values) s ≡ valueOf (start (network net) (given stim 0)) s
+    value-same zero h = refl
+    value-same (suc s) h =
+        array-at (timeZero net stim) values e (suc s) (in-array net accepted (suc s) h) ∙ zeroth-is net stim (suc s) (omega arith) h
+
+    module _ (m : modCheck (network net) modfile ≡ pass) where
+      abbrev fits : ModuleChecked modfile
+      fits = schedules net modfile accepted m
+
+      local-same : (p k : ℕ) → p < modProcessors modfile → k < modSlots modfile
+          → valueOf (valueIn values) (moduleOf modfile .signal p k) ≡ valueOf (start (network net) (given stim 0)) (moduleOf modfile .signal p k)
+      unfolding network
+      local-same p k low-p low-k =
+          value-same (moduleOf modfile .signal p k) (mod-slot (network net) modfile m p k (is-at fits low-p low-k) .signal)
+
+      sent-same : (p k : ℕ) → p < modProcessors modfile → k < modSlots modfile
+          → sentValue (moduleOf modfile) (valueIn values) p k ≡ sentValue (moduleOf modfile) (start (network net) (given stim 0)) p k
+      sent-same p k low-p low-k = go (ℕ-discrete sender noSender)
+        where
+          sender : ℕ
+          sender = modField modfile (modIndex modfile p k) 13
+
+          go : Dec (sender ≡ noSender)
+              → sentValue (moduleOf modfile) (valueIn values) p k ≡ sentValue (moduleOf modfile) (start (network net) (given stim 0)) p k
+          go (yes q) = nothing-sent modfile _ p k sender refl q ∙ sym (nothing-sent modfile _ p k sender refl q)
+          go (no d) =
+              let low : sender < modProcessors modfile = sender-below fits refl low-p low-k d in
+              something-sent modfile _ p k sender refl d _ refl
+              ∙ local-same sender _ low (location-below fits low low-k)
+              ∙ sym (something-sent modfile _ p k sender refl d _ refl)
+
+      byte-same : (a : ℕ) → a < memoryLength
+          → openingByte modfile (valueIn values) (a / 1280) (a % 1280 / 256) (a % 256)
+          ≡ openingByte modfile (start (network net) (given stim 0)) (a / 1280) (a % 1280 / 256) (a % 256)
+      unfolding within
+      byte-same a b = go (within (modProcessors modfile) (modSlots modfile) (a / 1280) (a % 256)) refl
+        where
+          there : Place (a / 1280) (a % 1280 / 256) (a % 256)
+          there = place-there a b
+
+          go : (w : Bool) → within (modProcessors modfile) (modSlots modfile) (a / 1280) (a % 256) ≡ w
+              → openingByte modfile (valueIn values) (a / 1280) (a % 1280 / 256) (a % 256)
+              ≡ openingByte modfile (start (network net) (given stim 0)) (a / 1280) (a % 1280 / 256) (a % 256)
+          go false w = byte-outside modfile _ there w ∙ sym (byte-outside modfile _ there w)
+          go true w =
+              parts (ℕ-discrete (a % 1280 / 256) 0) (ℕ-discrete (a % 1280 / 256) 2) (ℕ-discrete (a % 1280 / 256) 3)
+            where
+              low-p : a / 1280 < modProcessors modfile
+              low-p = ltb-true _ _ (and-left _ _ w)
+
+              low-k : a % 256 < modSlots modfile
+              low-k = ltb-true _ _ (and-right _ _ w)
+
+              parts : Dec (a % 1280 / 256 ≡ 0) → Dec (a % 1280 / 256 ≡ 2) → Dec (a % 1280 / 256 ≡ 3)
+                  → openingByte modfile (valueIn values) (a / 1280) (a % 1280 / 256) (a % 256)
+                  ≡ openingByte modfile (start (network net) (given stim 0)) (a / 1280) (a % 1280 / 256) (a % 256)
+              parts (yes q) y z = byte-local modfile _ there w q ∙ local-same _ _ low-p low-k ∙ sym (byte-local modfile _ there w q)
+              parts (no x) (yes q) z =
+                  byte-sent-earlier modfile _ there w q ∙ sent-same _ _ low-p low-k ∙ sym (byte-sent-earlier modfile _ there w q)
+              parts (no x) (no y) (yes q) =
+                  byte-sent-present modfile _ there w q ∙ sent-same _ _ low-p low-k ∙ sym (byte-sent-present modfile _ there w q)
+              parts (no x) (no y) (no z) = byte-other modfile _ there w x y z ∙ sym (byte-other modfile _ there w x y z)
+
+      pub opening-zeroth : openingWith modfile (valueIn values) ≡ openingBytes net modfile stim
+      unfolding openingBytes written
+      opening-zeroth = listed-same memoryLength _ _ byte-same

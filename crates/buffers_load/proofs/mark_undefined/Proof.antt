@@ -1,0 +1,55 @@
+-- The first s values are U for signals.
+use Prim.Native.Nat.{_-_}
+use mathlib.Core.Path.{refl}
+use lib.ListN.{length}
+use borrow.Author.Needs.{needs}
+use Rattle.buffers_load.specs.Values.{undefinedTo}
+use Rattle.logic.proofs.Filling.{Filled, fill-starts, fill-more, fill-ends}
+use native.Mathlib.Omega.{arith}
+use Rattle.buffers_load.proofs.mark_undefined.Statement.{statement}
+use Rattle.buffers_load.proofs.mark_undefined.Tie as tie
+
+abbrev Inv-loop : tie.InvT-loop
+Inv-loop signals values₀ s₀ values s = Filled (undefinedTo signals) (length values₀) s values
+
+abbrev μ-loop : tie.MeasureT-loop
+μ-loop signals values₀ s₀ values s = length values₀ - s
+
+loop-holds : tie.Need-loop-holds Inv-loop μ-loop
+loop-holds c = fill-starts _ _ _ refl
+
+undefined-at-requires : tie.Need-undefined-at-requires Inv-loop μ-loop
+undefined-at-requires c κs = search needs
+
+slice-write-values : tie.Need-slice-write-values Inv-loop μ-loop
+slice-write-values c = omega (arith, c .before .before .loop .inv .size)
+
+add-s : tie.Need-add-s Inv-loop μ-loop
+add-s c = omega (arith, c .before .before .loop .inv .low)
+
+loop-less : tie.Need-loop-less Inv-loop μ-loop
+loop-less c = omega (arith, c .before .before .loop .inv .size)
+
+loop-again : tie.Need-loop-again Inv-loop μ-loop
+loop-again c = fill-more (c .before .before .loop .inv) _ (omega (arith, c .before .before .loop .inv .size)) (c .undefined-at .ensures)
+
+same-length : tie.Need-same-length Inv-loop μ-loop
+same-length c = c .before .loop .inv .size
+
+returns : tie.Need-returns Inv-loop μ-loop
+returns c = fill-ends (c .before .loop .inv) (omega (arith, c .before .loop .inv .size))
+
+pub mark-undefined-spec : {M : Type 1} → statement M
+mark-undefined-spec =
+    tie.close
+    (tie.spec
+    Inv-loop
+    μ-loop
+    loop-holds
+    undefined-at-requires
+    slice-write-values
+    add-s
+    loop-less
+    loop-again
+    same-length
+    returns)

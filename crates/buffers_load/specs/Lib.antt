@@ -1,0 +1,3 @@
+pub mod Loaded
+pub mod Checked
+pub mod Values

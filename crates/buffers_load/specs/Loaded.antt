@@ -1,0 +1,95 @@
+-- What an accepted opening writes: every byte of the three buffers, by the files (01, Session: "It opens when the three files are
+-- accepted, with 0 cycles finished and STIM's time 0 values").
+use Prim.Native.Nat.{ℕ, zero, suc, _*_, _/_, _%_}
+use mathlib.Core.List.{List, [], _∷_}
+use lib.Dec.{eqb, leb}
+use lib.ListN.{getD}
+use Rattle.logic.specs.Choice.{if_then_else_}
+use Rattle.logic.specs.Listed.{listed}
+use Rattle.model.specs.Network.{isSignal}
+use Rattle.model.specs.Netlist.{netSize, netField, network}
+use Rattle.model.specs.Value.{start}
+use Rattle.model.specs.Module.{Module}
+use Rattle.model.specs.Machine.{opening}
+use Rattle.model.specs.ModuleFile.{modProcessors, modSlots, moduleOf}
+use Rattle.model.specs.Stimulus.{held as given}
+use Rattle.buffers_memory.specs.Memory.{memoryLength, within, withMemory}
+use Rattle.buffers_tables.specs.Panel.{panelLength}
+use Rattle.buffers_tables.specs.Program.{programLength}
+
+-- the value of signal s at time 0, and 0 for what is no signal
+unfoldable pub timeZero : List ℕ → List ℕ → ℕ → ℕ
+timeZero net stim s = if isSignal (network net) s then start (network net) (given stim 0) s else 0
+
+-- the last of the first lines of MOD, counted from 0 after line 1, that has signal s. In an accepted module it is the only one.
+unfoldable pub placeBelow : Module → ℕ → ℕ → ℕ
+placeBelow m s zero = 0
+placeBelow m s (suc k) = if eqb (m .signal (k / m .slots) (k % m .slots)) s then k else placeBelow m s k
+
+unfoldable pub placeOf : List ℕ → ℕ → ℕ
+placeOf modfile s = placeBelow (moduleOf modfile) s (modProcessors modfile * modSlots modfile)
+
+-- the session's ten bytes: N, P, C, 0 cycles finished, "watch signal 1, mask 0"
+abbrev pub headBytes : ℕ → ℕ → ℕ → List ℕ
+headBytes signals processors slots =
+    signals % 256 ∷ signals / 256
+    ∷ processors
+    ∷ slots % 256 ∷ slots / 256
+    ∷ 0 ∷ 0
+    ∷ 1 ∷ 0
+    ∷ 0
+    ∷ []
+
+-- the ten bytes of signal s: kind, f, g1 to g5, its value in hand, the processor and the slot of its place
+abbrev pub signalBytes : List ℕ → ℕ → ℕ → ℕ → ℕ → List ℕ
+signalBytes net s value processor slot =
+    netField net s 0
+    ∷ netField net s 2
+    ∷ netField net s 3 ∷ netField net s 4 ∷ netField net s 5 ∷ netField net s 6 ∷ netField net s 7
+    ∷ value
+    ∷ processor ∷ slot
+    ∷ []
+
+-- the panel, for a module of P processors and C slots that has each signal at line `place s`, and with the values in hand: byte a is
+-- one of the ten of signal a / 10, and 0 above signal N
+unfoldable pub panelByte : List ℕ → ℕ → ℕ → (ℕ → ℕ) → (ℕ → ℕ) → ℕ → ℕ → ℕ
+panelByte net P C place hand zero column = getD (headBytes (netSize net) P C) column 0
+panelByte net P C place hand (suc s) column =
+    if leb (suc s) (netSize net)
+    then getD (signalBytes net (suc s) (hand (suc s)) (place (suc s) / C) (place (suc s) % C)) column 0
+    else 0
+
+-- the panel with given values in hand, and with those of time 0
+unfoldable pub panelWith : List ℕ → List ℕ → (ℕ → ℕ) → List ℕ
+panelWith net modfile hand =
+    listed panelLength (λ a. panelByte net (modProcessors modfile) (modSlots modfile) (placeOf modfile) hand (a / 10) (a % 10))
+
+unfoldable pub panelOf : List ℕ → List ℕ → List ℕ → List ℕ
+panelOf net modfile stim = panelWith net modfile (timeZero net stim)
+
+-- the 13 bytes of processor p and slot i: its signal, the pairs of its operands and of its send, the processor received from
+abbrev pub lineBytes : Module → ℕ → ℕ → List ℕ
+lineBytes m p i =
+    m .signal p i % 256 ∷ m .signal p i / 256
+    ∷ m .part p i 0 ∷ m .location p i 0
+    ∷ m .part p i 1 ∷ m .location p i 1
+    ∷ m .part p i 2 ∷ m .location p i 2
+    ∷ m .part p i 3 ∷ m .location p i 3
+    ∷ m .sendPart p i ∷ m .sendLocation p i
+    ∷ m .sender p i
+    ∷ []
+
+-- the program: byte a is one of the 13 of processor a / 13 % 16 and slot a / 13 / 16, and 0 where the module has no such line
+unfoldable pub programByte : List ℕ → ℕ → ℕ → ℕ → ℕ
+programByte modfile p i column =
+    if within (modProcessors modfile) (modSlots modfile) p i then getD (lineBytes (moduleOf modfile) p i) column 0 else 0
+
+unfoldable pub programOf : List ℕ → List ℕ
+programOf modfile = listed programLength (λ a. programByte modfile (a / 13 % 16) (a / 13 / 16) (a % 13))
+
+-- "Before cycle 1 ..": the module's locations hold the opening memory of given time 0 values, all other bytes 0
+abbrev pub openingWith : List ℕ → (ℕ → ℕ) → List ℕ
+openingWith modfile zeroth = withMemory (modProcessors modfile) (modSlots modfile) (opening (moduleOf modfile) zeroth) (listed memoryLength (λ a. 0))
+
+unfoldable pub openingBytes : List ℕ → List ℕ → List ℕ → List ℕ
+openingBytes net modfile stim = openingWith modfile (start (network net) (given stim 0))

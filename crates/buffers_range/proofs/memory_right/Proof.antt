@@ -1,0 +1,26 @@
+use mathlib.Core.Path.{_∙_}
+use Rattle.buffers_range.proofs.Parts.{memory-order}
+use borrow.Author.Needs.{needs}
+use Rattle.buffers_range.proofs.memory_right.Statement.{statement}
+use Rattle.buffers_range.proofs.memory_right.Tie as tie
+
+shared-slice-read-parts-right : tie.Need-shared-slice-read-parts-right
+shared-slice-read-parts-right c = search needs
+
+word-at-requires : tie.Need-word-at-requires
+word-at-requires c κs = search needs
+
+parts-right-requires : tie.Need-parts-right-requires
+parts-right-requires c κs = search needs
+
+returns : tie.Need-returns
+returns c =
+    let s = c .before .before .before .before .before in
+    let word-at = c .before .word-at in
+    let parts-right = c .parts-right in
+    parts-right .ensures ∙ rw (word-at .ensures) (memory-order _ _ (s .pre .1))
+
+pub memory-right-spec : {M : Type 1} → statement M
+memory-right-spec =
+    tie.close
+    (tie.spec shared-slice-read-parts-right word-at-requires parts-right-requires returns)

@@ -1,0 +1,38 @@
+use mathlib.Core.Path.{sym, _∙_}
+use Rattle.buffers_range.proofs.Judged.{stops, goes-on}
+use Rattle.buffers_range.specs.Order.{partAt}
+use borrow.Author.Needs.{needs}
+use Rattle.buffers_range.proofs.part_right.Statement.{statement}
+use Rattle.buffers_range.proofs.part_right.Tie as tie
+
+all-values-requires : tie.Need-all-values-requires
+all-values-requires c κs = search needs
+
+returns : tie.Need-returns
+unfolding partAt
+returns c =
+    let all-values = c .before .all-values in
+    let if1 = c .if1 in
+    sym (stops _ _ _ (all-values .ensures) (if1 .taken))
+
+add-all-zero : tie.Need-add-all-zero
+add-all-zero c = search needs
+
+sub-all-zero : tie.Need-sub-all-zero
+sub-all-zero c = search needs
+
+all-zero-requires : tie.Need-all-zero-requires
+all-zero-requires c κs = search needs
+
+returns-2 : tie.Need-returns-2
+unfolding partAt
+returns-2 c =
+    let all-values = c .before .before .all-values in
+    let if1 = c .before .if1 in
+    let all-zero = c .all-zero in
+    all-zero .ensures ∙ sym (goes-on _ _ _ (all-values .ensures) (if1 .left))
+
+pub part-right-spec : {M : Type 1} → statement M
+part-right-spec =
+    tie.close
+    (tie.spec all-values-requires returns add-all-zero sub-all-zero all-zero-requires returns-2)

@@ -1,0 +1,77 @@
+-- The invariant: the first j parts are in range.
+use Prim.Native.Nat.{_-_, _*_, _≤_}
+use mathlib.Core.Path.{_≡_, sym}
+use mathlib.Core.Bool.{true}
+use Rattle.logic.specs.Test.{all}
+use Rattle.logic.proofs.Tests.{all-more, all-fails, all-ends}
+use Rattle.buffers_range.specs.Order.{valuesIn, partAt, partsAt}
+use Rattle.buffers_range.proofs.Judged.{fails, passes}
+use borrow.Author.Needs.{needs}
+use native.Mathlib.Omega.{arith}
+use Rattle.buffers_range.proofs.parts_right.Statement.{statement}
+use Rattle.buffers_range.proofs.parts_right.Tie as tie
+
+abbrev Inv-loop : tie.InvT-loop
+Inv-loop memory processors slots j₀ j = (j ≤ 80) × (all j (λ i. partAt memory (256 * i) (valuesIn processors slots i)) ≡ true)
+
+abbrev μ-loop : tie.MeasureT-loop
+μ-loop memory processors slots j₀ j = 80 - j
+
+loop-holds : tie.Need-loop-holds Inv-loop μ-loop
+unfolding all
+loop-holds c = search needs
+
+mul-part-right : tie.Need-mul-part-right Inv-loop μ-loop
+mul-part-right c = search needs
+
+values-in-requires : tie.Need-values-in-requires Inv-loop μ-loop
+values-in-requires c κs = search needs
+
+part-right-requires : tie.Need-part-right-requires Inv-loop μ-loop
+part-right-requires c κs = search needs
+
+returns : tie.Need-returns Inv-loop μ-loop
+unfolding partsAt
+returns c =
+    let loop-test = c .before .before .before .loop-test in
+    let values-in = c .before .before .values-in in
+    let part-right = c .before .part-right in
+    let if1 = c .if1 in
+    sym (all-fails _ 80 _ (loop-test .taken) (rw (← values-in .ensures .0) (fails _ _ (part-right .ensures) (if1 .taken))))
+
+add-j : tie.Need-add-j Inv-loop μ-loop
+add-j c = search needs
+
+loop-less : tie.Need-loop-less Inv-loop μ-loop
+loop-less c = search needs
+
+loop-again : tie.Need-loop-again Inv-loop μ-loop
+loop-again c =
+    let loop = c .before .before .before .before .loop in
+    let values-in = c .before .before .values-in in
+    let part-right = c .before .part-right in
+    let if1 = c .if1 in
+    (omega arith, all-more _ _ (loop .inv .1) (rw (← values-in .ensures .0) (passes _ _ (part-right .ensures) (if1 .left))))
+
+returns-2 : tie.Need-returns-2 Inv-loop μ-loop
+unfolding partsAt
+returns-2 c =
+    let loop = c .before .loop in
+    let loop-test = c .loop-test in
+    sym (all-ends _ 80 _ (loop .inv .0) (loop-test .left) (loop .inv .1))
+
+pub parts-right-spec : {M : Type 1} → statement M
+parts-right-spec =
+    tie.close
+    (tie.spec
+    Inv-loop
+    μ-loop
+    loop-holds
+    mul-part-right
+    values-in-requires
+    part-right-requires
+    returns
+    add-j
+    loop-less
+    loop-again
+    returns-2)

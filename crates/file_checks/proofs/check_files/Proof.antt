@@ -1,0 +1,72 @@
+-- The three checks: each answer carries its refusal, and the ones before it passed.
+use mathlib.Core.Path.{_∙_}
+use Rattle.file_net.proofs.Joined.{refusal-of, stage-pass}
+use Rattle.file_mod_lines.proofs.Told.{not-accepted}
+use Rattle.file_mod_lines.proofs.Stages.{passed}
+use Rattle.file_checks.proofs.Joined.{net-stops, mod-stops, stim-last}
+use borrow.Author.Needs.{needs}
+use Rattle.file_checks.proofs.check_files.Statement.{statement}
+use Rattle.file_checks.proofs.check_files.Tie as tie
+
+check-net-requires : tie.Need-check-net-requires
+check-net-requires c κs = search needs
+
+enum-told : tie.Need-enum-told
+enum-told c = search needs
+
+net-answer-requires : tie.Need-net-answer-requires
+net-answer-requires c κs = search needs
+
+returns : tie.Need-returns
+returns c =
+    let s = c .before .before .before .before .before .before in
+    c .net-answer .ensures
+    ∙ net-stops (s .args .net .now) (s .args .modfile .now) (s .args .stim .now) _ _ (c .before .before .check-net .ensures)
+    (refusal-of _ (c .before .match .keys2))
+
+check-mod-requires : tie.Need-check-mod-requires
+check-mod-requires c κs = stage-pass _ _ _ _ (c .before .before .check-net .ensures) (c .enum-told .given .1)
+
+enum-told-2 : tie.Need-enum-told-2
+enum-told-2 c = search needs
+
+mod-answer-requires : tie.Need-mod-answer-requires
+mod-answer-requires c κs = search needs
+
+returns-2 : tie.Need-returns-2
+returns-2 c =
+    let s = c .before .before .before .before .before .before .before .before .before in
+    let net-right = stage-pass _ _ _ _ (c .before .before .before .before .before .check-net .ensures) (c .before .before .before .enum-told .given .1) in
+    c .mod-answer .ensures
+    ∙ mod-stops (s .args .net .now) (s .args .modfile .now) (s .args .stim .now) net-right _ _ _ (c .before .before .check-mod .ensures)
+    (not-accepted _ (c .before .match2 .keys2))
+
+check-stim-requires : tie.Need-check-stim-requires
+check-stim-requires c κs = stage-pass _ _ _ _ (c .before .before .before .before .before .check-net .ensures) (c .before .before .before .enum-told .given .1)
+
+stim-answer-requires : tie.Need-stim-answer-requires
+stim-answer-requires c κs = search needs
+
+returns-3 : tie.Need-returns-3
+returns-3 c =
+    let s = c .before .before .before .before .before .before .before .before .before .before .before in
+    let net-right = stage-pass _ _ _ _ (c .before .before .before .before .before .before .before .check-net .ensures) (c .before .before .before .before .before .enum-told .given .1) in
+    let mod-right = passed _ _ _ _ _ _ (c .before .before .before .before .check-mod .ensures) (c .before .before .enum-told2 .given .1) in
+    c .stim-answer .ensures
+    ∙ stim-last (s .args .net .now) (s .args .modfile .now) (s .args .stim .now) net-right _ mod-right (c .before .check-stim .ensures)
+
+pub check-files-spec : {M : Type 1} → statement M
+check-files-spec =
+    tie.close
+    (tie.spec
+    check-net-requires
+    enum-told
+    net-answer-requires
+    returns
+    check-mod-requires
+    enum-told-2
+    mod-answer-requires
+    returns-2
+    check-stim-requires
+    stim-answer-requires
+    returns-3)

@@ -1,0 +1,92 @@
+// The three file checks one after the other, for the opening, and as one number for tests and measurements in C.
+
+ghost use mathlib.Core.Path.{_≡_};
+ghost use Prim.Native.Nat.{_+_, _*_};
+ghost use Rattle.model.specs.Acceptance.{panelLimit, fileCheck};
+ghost use Rattle.file_net.specs.Answer.{netRefusal};
+ghost use Rattle.file_mod_lines.specs.Answer.{modRefusal};
+ghost use Rattle.file_stim.specs.Answer.{stimRefusal};
+ghost use Rattle.file_checks.specs.Answer.{fileRefusal};
+ghost use Rattle.file_checks.specs.Code.{checked};
+use file_mod_lines::ModAnswer;
+use file_net::NetAnswer;
+use file_stim::StimAnswer;
+
+// The files are accepted, or refused with a number and what it returns (01, Refusals).
+pub enum FileAnswer {
+    Accepted,
+    Refused(u8, u16),
+}
+
+// NET's answer, number by number.
+pub fn net_answer(answer: NetAnswer) -> FileAnswer
+    ensures { λ r. ⌜ fileRefusal r ≡ netRefusal answer ⌝ }
+{
+    match answer {
+        NetAnswer::Accepted(_) => FileAnswer::Accepted,
+        NetAnswer::Misformed(line) => FileAnswer::Refused(10, line),
+        NetAnswer::Layout(line) => FileAnswer::Refused(11, line),
+        NetAnswer::Sources(line) => FileAnswer::Refused(12, line),
+        NetAnswer::Chain(signal) => FileAnswer::Refused(13, signal),
+    }
+}
+
+// MOD's answer, number by number.
+pub fn mod_answer(answer: ModAnswer) -> FileAnswer
+    ensures { λ r. ⌜ fileRefusal r ≡ modRefusal answer ⌝ }
+{
+    match answer {
+        ModAnswer::Accepted(_, _) => FileAnswer::Accepted,
+        ModAnswer::Misformed(line) => FileAnswer::Refused(20, line),
+        ModAnswer::Layout(line) => FileAnswer::Refused(21, line),
+        ModAnswer::Placement(signal) => FileAnswer::Refused(22, signal),
+        ModAnswer::Send(line) => FileAnswer::Refused(24, line),
+        ModAnswer::Reception(line) => FileAnswer::Refused(25, line),
+        ModAnswer::WrongOperand(line) => FileAnswer::Refused(23, line),
+    }
+}
+
+// STIM's answer, number by number.
+pub fn stim_answer(answer: StimAnswer) -> FileAnswer
+    ensures { λ r. ⌜ fileRefusal r ≡ stimRefusal answer ⌝ }
+{
+    match answer {
+        StimAnswer::Accepted(_) => FileAnswer::Accepted,
+        StimAnswer::Misformed(line) => FileAnswer::Refused(30, line),
+        StimAnswer::Layout(line) => FileAnswer::Refused(31, line),
+        StimAnswer::NotInput(line) => FileAnswer::Refused(32, line),
+    }
+}
+
+// "Order: NET, MOD, STIM." The first that breaks its conditions is refused, before the next is read.
+pub fn check_files(net: &[u8], modfile: &[u8], stim: &[u8]) -> FileAnswer
+    ensures { λ r. ⌜ fileRefusal r ≡ fileCheck panelLimit (record { NET = now (net .entry); MOD = now (modfile .entry); STIM = now (stim .entry) }) ⌝ }
+{
+    let first = file_net::check_net(net, 4096);
+    let NetAnswer::Accepted(_) = first else {
+        return net_answer(first);
+    };
+    let second = file_mod::check_mod(net, modfile);
+    let ModAnswer::Accepted(_, _) = second else {
+        return mod_answer(second);
+    };
+    stim_answer(file_stim::check_stim(net, stim))
+}
+
+// A refusal's number and what it returns, as one number.
+fn coded(number: u8, returned: u16) -> u64
+    ensures { λ r. ⌜ r ≡ 65536 * number + returned ⌝ }
+{
+    65536 * (number as u64) + (returned as u64)
+}
+
+// The three files' check as one number.
+#[no_mangle]
+pub extern "C" fn cavundir_check_files(net: &[u8], modfile: &[u8], stim: &[u8]) -> u64
+    ensures { λ r. ⌜ r ≡ checked (now (net .entry)) (now (modfile .entry)) (now (stim .entry)) ⌝ }
+{
+    let FileAnswer::Refused(number, returned) = check_files(net, modfile, stim) else {
+        return 0;
+    };
+    coded(number, returned)
+}

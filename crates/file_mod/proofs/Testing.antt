@@ -1,0 +1,83 @@
+-- A test of every line: it is one of line k after the first, for each k in order, and what it answers from those before.
+use Prim.Native.Nat.{ℕ, _+_, _*_, _/_, _%_, _<_, _≤_}
+use mathlib.Core.Path.{_≡_, refl, sym, ap, _∙_}
+use mathlib.Core.Bool.{Bool, true, false}
+use mathlib.Core.List.{List}
+use native.Mathlib.Omega.{arith}
+use Rattle.logic.specs.Test.{_and_, all}
+use Rattle.model.specs.Refusal.{Check, fail, pass, first, unless, firstBelow}
+use Rattle.model.specs.Network.{Network}
+use Rattle.model.specs.Module.{operandRight}
+use Rattle.model.specs.ModuleFile.{modProcessors, modSlots, modIndex, moduleOf, eachLine, sending, receiving, operands}
+use Rattle.file_mod_lines.specs.Answer.{Answers, Sized}
+use Rattle.file_mod.specs.Testing.{testRight, testAnswer, testCheck}
+use Rattle.file_mod_lines.specs.declared.ModAnswer.the-variants.{Accepted}
+use Rattle.file_mod.specs.declared.Test.{Test}
+use Rattle.file_mod.specs.declared.Test.the-variants.{Sends, Receptions, Operands}
+use Rattle.file_mod_lines.proofs.Lines.{line-index, line-total, below-stops, below-goes-on, below-same}
+
+-- a line's four operands, each refused alike
+four-tests : (test : ℕ → Bool) (number returned : ℕ) → firstBelow 4 (λ j. unless (test j) number returned) ≡ unless (all 4 test) number returned
+unfolding firstBelow all first unless _and_
+four-tests test number returned = go (test 0) (test 1) (test 2) (test 3)
+  where
+    go : (a b c d : Bool)
+        → first (first (first (first pass (unless a number returned)) (unless b number returned)) (unless c number returned)) (unless d number returned)
+        ≡ unless ((((true and a) and b) and c) and d) number returned
+    go true true true d = refl
+    go true true false d = refl
+    go true false c d = refl
+    go false b c d = refl
+
+abbrev testNumber : Test → ℕ
+testNumber Sends = 24
+testNumber Receptions = 25
+testNumber Operands = 23
+
+-- the test of line k after the first, refused with the line
+abbrev pub lineTest : Test → Network → List ℕ → ℕ → Check
+lineTest t n l k =
+    unless (testRight t n (moduleOf l) (k / modSlots l) (k % modSlots l)) (testNumber t) (modIndex l (k / modSlots l) (k % modSlots l) + 1)
+
+by-line : (t : Test) (n : Network) (l : List ℕ) → testCheck t n l ≡ firstBelow (modProcessors l * modSlots l) (lineTest t n l)
+unfolding sending receiving operands eachLine
+by-line Sends n l = refl
+by-line Receptions n l = refl
+by-line Operands n l =
+    below-same (modProcessors l * modSlots l)
+    (λ k.
+    firstBelow 4
+    (λ j.
+    unless (operandRight n (moduleOf l) (k / modSlots l) (k % modSlots l) j) 23 (modIndex l (k / modSlots l) (k % modSlots l) + 1)))
+    (lineTest Operands n l)
+    (λ k h. four-tests (operandRight n (moduleOf l) (k / modSlots l) (k % modSlots l)) 23 (modIndex l (k / modSlots l) (k % modSlots l) + 1))
+
+refuses : (t : Test) (p c line : ℕ) (check : Check) → check ≡ fail (testNumber t) line → Answers p c check (testAnswer t line)
+refuses Sends p c line check e = record { refusal = sym e; sizes = tt }
+refuses Receptions p c line check e = record { refusal = sym e; sizes = tt }
+refuses Operands p c line check e = record { refusal = sym e; sizes = tt }
+
+-- the lines before line k pass
+module _ (t : Test) (n : Network) (l : List ℕ) (p c : ℕ) (sized : Sized l p c) (lines k : ℕ) (total : lines ≡ p * c)
+    (before : firstBelow k (lineTest t n l) ≡ pass) where
+  here : (r : Bool) → r ≡ testRight t n (moduleOf l) (k / c) (k % c) → testRight t n (moduleOf l) (k / modSlots l) (k % modSlots l) ≡ r
+  here r e = sym (e ∙ ap (λ (x : ℕ). testRight t n (moduleOf l) (k / x) (k % x)) (sized .slots))
+
+  pub test-stops : k < lines → (r : Bool) → r ≡ testRight t n (moduleOf l) (k / c) (k % c) → r ≡ false
+      → Answers p c (testCheck t n l) (testAnswer t (k + 2))
+  unfolding unless
+  test-stops low r e f =
+      let at : k + 1 + 1 ≡ k + 2 = omega arith in
+      let fails : lineTest t n l k ≡ fail (testNumber t) (k + 2) = rw (here r e ∙ f, line-index l k) (ap (fail (testNumber t)) at) in
+      refuses t p c (k + 2) (testCheck t n l)
+      (by-line t n l
+      ∙ below-stops (lineTest t n l) k before (modProcessors l * modSlots l) (omega (arith, line-total l p c sized)) fails)
+
+  pub test-goes-on : (r : Bool) → r ≡ testRight t n (moduleOf l) (k / c) (k % c) → r ≡ true → firstBelow (k + 1) (lineTest t n l) ≡ pass
+  unfolding unless
+  test-goes-on r e f = below-goes-on (lineTest t n l) k before (rw (here r e ∙ f))
+
+  pub test-passes : k ≤ lines → lines ≤ k → Answers p c (testCheck t n l) (Accepted p c)
+  test-passes low high =
+      let e : k ≡ modProcessors l * modSlots l = omega (arith, line-total l p c sized) in
+      record { refusal = sym (by-line t n l ∙ (rw (← e) before)); sizes = (refl, refl) }

@@ -1,0 +1,98 @@
+-- The invariant: the lines before line k pass the test.
+use Prim.Native.Nat.{_-_, _≤_, _<_, _*_}
+use mathlib.Core.Path.{_≡_, refl}
+use native.Mathlib.Omega.{arith}
+use borrow.Author.Tests.{not-true, not-false}
+use Rattle.model.specs.Refusal.{pass, firstBelow}
+use Rattle.model.specs.Netlist.{network}
+use Rattle.file_mod.proofs.Slots.{at-processor, at-slot}
+use Rattle.file_mod.proofs.Testing.{lineTest, test-stops, test-goes-on, test-passes}
+use borrow.Author.Needs.{needs}
+use Rattle.file_mod.proofs.check_each.Statement.{statement}
+use Rattle.file_mod.proofs.check_each.Tie as tie
+
+abbrev Inv-loop : tie.InvT-loop
+Inv-loop test net modfile processors slots lines k₀ k = (k ≤ lines) × (firstBelow k (lineTest test (network net) modfile) ≡ pass)
+
+abbrev μ-loop : tie.MeasureT-loop
+μ-loop test net modfile processors slots lines k₀ k = lines - k
+
+line-count-requires : tie.Need-line-count-requires Inv-loop μ-loop
+line-count-requires c κs = search needs
+
+loop-holds : tie.Need-loop-holds Inv-loop μ-loop
+unfolding firstBelow
+loop-holds c = (omega arith, refl)
+
+processor-of-requires : tie.Need-processor-of-requires Inv-loop μ-loop
+processor-of-requires c κs = search needs
+
+slot-of-requires : tie.Need-slot-of-requires Inv-loop μ-loop
+slot-of-requires c κs = search needs
+
+line-right-requires : tie.Need-line-right-requires Inv-loop μ-loop
+line-right-requires c κs =
+    let s = c .before .before .before .before .before .before .before in
+    let loop = c .before .before .before .loop in
+    let processor-of = c .before .processor-of in
+    let slot-of = c .slot-of in
+    let low : loop .k < s .args .processors * s .args .slots = omega (arith, c .before .before .before .before .line-count .ensures .0) in
+    let low-p : processor-of .result < s .args .processors = omega (arith, processor-of .ensures, at-processor _ _ _ (s .pre .0) (loop .k) low) in
+    let low-i : slot-of .result < s .args .slots = omega (arith, slot-of .ensures, at-slot _ _ _ (s .pre .0) (loop .k) low) in
+    (s .pre .0, (s .pre .1 .0, (s .pre .1 .1, (low-p, low-i))))
+
+add-refused-at : tie.Need-add-refused-at Inv-loop μ-loop
+add-refused-at c = search needs
+
+cast-refused-at : tie.Need-cast-refused-at Inv-loop μ-loop
+cast-refused-at c = search needs
+
+refused-at-requires : tie.Need-refused-at-requires Inv-loop μ-loop
+refused-at-requires c κs = search needs
+
+returns : tie.Need-returns Inv-loop μ-loop
+returns c =
+    let s = c .before .before .before .before .before .before .before .before .before .before in
+    let loop = c .before .before .before .before .before .before .loop in
+    let here = rw (c .before .before .before .before .processor-of .ensures, c .before .before .before .slot-of .ensures) at (c .before .before .line-right .ensures) in
+    let stops = test-stops (s .args .test) (network (s .args .net .now)) (s .args .modfile .now) _ _ (s .pre .0 .sized) _ (loop .k) (c .before .before .before .before .before .before .before .line-count .ensures .0) (loop .inv .1) (c .before .before .before .before .before .loop-test .taken) _ here (not-true _ (c .before .if1 .taken)) in
+    rw (c .refused-at .ensures) stops
+
+add-k : tie.Need-add-k Inv-loop μ-loop
+add-k c = search needs
+
+loop-less : tie.Need-loop-less Inv-loop μ-loop
+loop-less c = search needs
+
+loop-again : tie.Need-loop-again Inv-loop μ-loop
+loop-again c =
+    let s = c .before .before .before .before .before .before .before .before .before in
+    let loop = c .before .before .before .before .before .loop in
+    let here = rw (c .before .before .before .processor-of .ensures, c .before .before .slot-of .ensures) at (c .before .line-right .ensures) in
+    (omega arith, test-goes-on (s .args .test) (network (s .args .net .now)) (s .args .modfile .now) _ _ (s .pre .0 .sized) _ (loop .k) (c .before .before .before .before .before .before .line-count .ensures .0) (loop .inv .1) _ here (not-false _ (c .if1 .left)))
+
+returns-2 : tie.Need-returns-2 Inv-loop μ-loop
+returns-2 c =
+    let s = c .before .before .before .before .before in
+    let loop = c .before .loop in
+    test-passes (s .args .test) (network (s .args .net .now)) (s .args .modfile .now) _ _ (s .pre .0 .sized) _ (loop .k) (c .before .before .line-count .ensures .0) (loop .inv .1) (loop .inv .0) (c .loop-test .left)
+
+pub check-each-spec : {M : Type 1} → statement M
+check-each-spec =
+    tie.close
+    (tie.spec
+    Inv-loop
+    μ-loop
+    line-count-requires
+    loop-holds
+    processor-of-requires
+    slot-of-requires
+    line-right-requires
+    add-refused-at
+    cast-refused-at
+    refused-at-requires
+    returns
+    add-k
+    loop-less
+    loop-again
+    returns-2)

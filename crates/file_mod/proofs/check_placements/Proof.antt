@@ -1,0 +1,36 @@
+use mathlib.Core.Path.{_∙_}
+use native.Mathlib.Omega.{arith}
+use lib.ListN.{getD-replicate}
+use Rattle.file_mod.proofs.Counts.{counted-placed}
+use borrow.Author.Needs.{needs}
+use Rattle.file_mod.proofs.check_placements.Statement.{statement}
+use Rattle.file_mod.proofs.check_placements.Tie as tie
+
+slice-aggregate-count-signals : tie.Need-slice-aggregate-count-signals
+slice-aggregate-count-signals c = search needs
+
+count-signals-requires : tie.Need-count-signals-requires
+count-signals-requires c κs = (c .before .before .pre .0, (search needs, λ s h. getD-replicate 4097 s 0 0 (omega arith)))
+
+slice-aggregate-find-unplaced : tie.Need-slice-aggregate-find-unplaced
+slice-aggregate-find-unplaced c = search needs
+
+find-unplaced-requires : tie.Need-find-unplaced-requires
+find-unplaced-requires c κs = search needs
+
+returns : tie.Need-returns
+returns c =
+    let s = c .before .before .before .before .before .before in
+    let count-signals = c .before .before .before .count-signals in
+    let find-unplaced = c .find-unplaced in
+    λ n e. record { refusal = find-unplaced .ensures .refusal ∙ counted-placed _ _ _ (s .pre .1) (count-signals .ensures) n e; sizes = find-unplaced .ensures .sizes }
+
+pub check-placements-spec : {M : Type 1} → statement M
+check-placements-spec =
+    tie.close
+    (tie.spec
+    slice-aggregate-count-signals
+    count-signals-requires
+    slice-aggregate-find-unplaced
+    find-unplaced-requires
+    returns)

@@ -1,0 +1,49 @@
+use mathlib.Core.Path.{sym, _∙_, ap}
+use native.Mathlib.Omega.{arith}
+use Rattle.instruction.specs.declared.Instruction.{Instruction}
+use Rattle.file_mod_lines.proofs.Judged.{chain-stops, chain-goes-on}
+use Rattle.file_mod_lines.proofs.Lines.{all-4}
+use borrow.Author.Needs.{needs}
+use Rattle.file_mod.proofs.operands_right.Statement.{statement}
+use Rattle.file_mod.proofs.operands_right.Tie as tie
+
+instruction-at-requires : tie.Need-instruction-at-requires
+instruction-at-requires c κs = search needs
+
+operand-right-requires : tie.Need-operand-right-requires
+operand-right-requires c κs = (c .before .before .before .pre .0, (c .before .before .before .pre .1 .0, ((c .before .before .before .pre .1 .1 .1 .0, c .before .before .before .pre .1 .1 .1 .1, omega arith), (ap (λ (r : Instruction). r .signal) (c .instruction-at .ensures), omega (arith, ap (λ (r : Instruction). r .signal) (c .instruction-at .ensures), c .before .before .before .pre .1 .1 .0 (c .before .before .before .args .processor) (c .before .before .before .args .slot) (c .before .before .before .pre .1 .1 .1 .0) (c .before .before .before .pre .1 .1 .1 .1)), ap (λ (r : Instruction). r .a1) (c .instruction-at .ensures)))))
+
+returns : tie.Need-returns
+returns c = sym (all-4 _ ∙ chain-stops _ _ _ (c .before .operand-right .ensures) (c .if1 .taken))
+
+operand-right-requires-2 : tie.Need-operand-right-requires-2
+operand-right-requires-2 c κs = (c .before .before .before .before .before .pre .0, (c .before .before .before .before .before .pre .1 .0, ((c .before .before .before .before .before .pre .1 .1 .1 .0, c .before .before .before .before .before .pre .1 .1 .1 .1, omega arith), (ap (λ (r : Instruction). r .signal) (c .before .before .instruction-at .ensures), omega (arith, ap (λ (r : Instruction). r .signal) (c .before .before .instruction-at .ensures), c .before .before .before .before .before .pre .1 .1 .0 (c .before .before .before .before .before .args .processor) (c .before .before .before .before .before .args .slot) (c .before .before .before .before .before .pre .1 .1 .1 .0) (c .before .before .before .before .before .pre .1 .1 .1 .1)), ap (λ (r : Instruction). r .a2) (c .before .before .instruction-at .ensures)))))
+
+returns-2 : tie.Need-returns-2
+returns-2 c = sym (all-4 _ ∙ chain-goes-on _ _ _ (c .before .before .before .operand-right .ensures) (c .before .before .if1 .left) ∙ chain-stops _ _ _ (c .before .operand-right2 .ensures) (c .if2 .taken))
+
+operand-right-requires-3 : tie.Need-operand-right-requires-3
+operand-right-requires-3 c κs = (c .before .before .before .before .before .before .before .pre .0, (c .before .before .before .before .before .before .before .pre .1 .0, ((c .before .before .before .before .before .before .before .pre .1 .1 .1 .0, c .before .before .before .before .before .before .before .pre .1 .1 .1 .1, omega arith), (ap (λ (r : Instruction). r .signal) (c .before .before .before .before .instruction-at .ensures), omega (arith, ap (λ (r : Instruction). r .signal) (c .before .before .before .before .instruction-at .ensures), c .before .before .before .before .before .before .before .pre .1 .1 .0 (c .before .before .before .before .before .before .before .args .processor) (c .before .before .before .before .before .before .before .args .slot) (c .before .before .before .before .before .before .before .pre .1 .1 .1 .0) (c .before .before .before .before .before .before .before .pre .1 .1 .1 .1)), ap (λ (r : Instruction). r .a3) (c .before .before .before .before .instruction-at .ensures)))))
+
+returns-3 : tie.Need-returns-3
+returns-3 c = sym (all-4 _ ∙ chain-goes-on _ _ _ (c .before .before .before .before .before .operand-right .ensures) (c .before .before .before .before .if1 .left) ∙ chain-goes-on _ _ _ (c .before .before .before .operand-right2 .ensures) (c .before .before .if2 .left) ∙ chain-stops _ _ _ (c .before .operand-right3 .ensures) (c .if3 .taken))
+
+operand-right-requires-4 : tie.Need-operand-right-requires-4
+operand-right-requires-4 c κs = (c .before .before .before .before .before .before .before .before .before .pre .0, (c .before .before .before .before .before .before .before .before .before .pre .1 .0, ((c .before .before .before .before .before .before .before .before .before .pre .1 .1 .1 .0, c .before .before .before .before .before .before .before .before .before .pre .1 .1 .1 .1, omega arith), (ap (λ (r : Instruction). r .signal) (c .before .before .before .before .before .before .instruction-at .ensures), omega (arith, ap (λ (r : Instruction). r .signal) (c .before .before .before .before .before .before .instruction-at .ensures), c .before .before .before .before .before .before .before .before .before .pre .1 .1 .0 (c .before .before .before .before .before .before .before .before .before .args .processor) (c .before .before .before .before .before .before .before .before .before .args .slot) (c .before .before .before .before .before .before .before .before .before .pre .1 .1 .1 .0) (c .before .before .before .before .before .before .before .before .before .pre .1 .1 .1 .1)), ap (λ (r : Instruction). r .a4) (c .before .before .before .before .before .before .instruction-at .ensures)))))
+
+returns-4 : tie.Need-returns-4
+returns-4 c = c .operand-right4 .ensures ∙ sym (all-4 _ ∙ chain-goes-on _ _ _ (c .before .before .before .before .before .before .operand-right .ensures) (c .before .before .before .before .before .if1 .left) ∙ chain-goes-on _ _ _ (c .before .before .before .before .operand-right2 .ensures) (c .before .before .before .if2 .left) ∙ chain-goes-on _ _ _ (c .before .before .operand-right3 .ensures) (c .before .if3 .left))
+
+pub operands-right-spec : {M : Type 1} → statement M
+operands-right-spec =
+    tie.close
+    (tie.spec
+    instruction-at-requires
+    operand-right-requires
+    returns
+    operand-right-requires-2
+    returns-2
+    operand-right-requires-3
+    returns-3
+    operand-right-requires-4
+    returns-4)

@@ -1,0 +1,41 @@
+use Prim.Native.Nat.{_+_}
+use mathlib.Core.Path.{_∙_}
+use native.Mathlib.Omega.{arith}
+use Rattle.model.specs.ModuleFile.{moduleOf}
+use Rattle.file_mod.proofs.Slots.{field-laid, field-read, sender-small}
+use borrow.Author.Needs.{needs}
+use Rattle.file_mod.proofs.sender_at.Statement.{statement}
+use Rattle.file_mod.proofs.sender_at.Tie as tie
+
+line-place-requires : tie.Need-line-place-requires
+line-place-requires c κs = search needs
+
+add-number-at : tie.Need-add-number-at
+add-number-at c = search needs
+
+number-at-requires : tie.Need-number-at-requires
+number-at-requires c κs =
+    let s = c .before .before in
+    let line-place = c .line-place in
+    let laid = field-laid _ _ _ (s .pre .0) (s .args .processor) (s .args .slot) (line-place .result) (s .pre .1 .0) (s .pre .1 .1) (line-place .ensures .0) in
+    laid 13 (line-place .result + 78) (omega arith) (omega arith)
+
+cast-result : tie.Need-cast-result
+cast-result c =
+    let s = c .before .before .before in
+    let line-place = c .before .line-place in
+    let number-at = c .number-at in
+    omega (arith, number-at .ensures, sender-small _ _ _ (s .pre .0) (s .args .processor) (s .args .slot) (line-place .result) (s .pre .1 .0) (s .pre .1 .1) (line-place .ensures .0))
+
+returns : tie.Need-returns
+unfolding moduleOf
+returns c =
+    let s = c .before .before .before in
+    let line-place = c .before .line-place in
+    let number-at = c .number-at in
+    let read = field-read _ _ _ (s .pre .0) (s .args .processor) (s .args .slot) (line-place .result) (s .pre .1 .0) (s .pre .1 .1) (line-place .ensures .0) in
+    number-at .ensures ∙ read 13 (line-place .result + 78) (omega arith)
+
+pub sender-at-spec : {M : Type 1} → statement M
+sender-at-spec =
+    tie.close (tie.spec line-place-requires add-number-at number-at-requires cast-result returns)

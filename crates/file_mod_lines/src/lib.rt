@@ -1,0 +1,234 @@
+// The lines of MOD (01, Files and Refusals): 20 and 21, line by line.
+
+use fields::Field;
+use fields::Line;
+ghost use mathlib.Core.Path.{_≡_};
+ghost use mathlib.Core.Bool.{true};
+ghost use Prim.Native.Nat.{_+_, _*_, _/_, _%_, _<_, _≤_};
+ghost use lib.Dec.{eqb};
+ghost use Rattle.logic.specs.Test.{all};
+ghost use Rattle.fields.specs.Field.{isFieldAt};
+ghost use Rattle.fields.specs.Line.{isLineAt};
+ghost use Rattle.model.specs.Network.{Network};
+ghost use Rattle.model.specs.ModuleFile.{modProcessors, modSlots, modField, modHeader, modSlot, eachLine, modSurplus};
+ghost use Rattle.file_mod_lines.specs.Answer.{Answers, Sized};
+ghost use Rattle.file_mod_lines.specs.Form.{formCheck};
+ghost use Rattle.file_mod_lines.specs.Layout.{pairLaid, pairAt, operandsAt, lineAt};
+
+// MOD accepted with P and C, or refused: with a line, and at 22 with a signal.
+pub enum ModAnswer {
+    Accepted(u16, u16),
+    Misformed(u16),
+    Layout(u16),
+    Placement(u16),
+    Send(u16),
+    Reception(u16),
+    WrongOperand(u16),
+}
+
+// "twelve zeros": the rest of line 1.
+fn twelve_zeros(modfile: &[u8]) -> bool
+    requires { ⌜ isLineAt (now modfile) 0 14 ≡ true ⌝ }
+    ensures { λ r. ⌜ r ≡ all 12 (λ k. eqb (modField (now (modfile .entry)) 0 (2 + k)) 0) ⌝ }
+{
+    let mut k: usize = 0;
+    while k < 12 {
+        if fields::number_at(modfile, 12 + 6 * k) != 0 {
+            return false;
+        }
+        k += 1;
+    }
+    true
+}
+
+// Line 1: 20, then 21.
+fn check_header(modfile: &[u8]) -> ModAnswer
+    ensures { λ r. ⌜ Answers (modProcessors (now (modfile .entry))) (modSlots (now (modfile .entry))) (modHeader (now (modfile .entry))) r ⌝ }
+{
+    let Line::Next(_) = fields::read_line(modfile, 0, 14) else {
+        return ModAnswer::Misformed(1);
+    };
+    let p = fields::number_at(modfile, 0);
+    let c = fields::number_at(modfile, 6);
+    if p < 1 {
+        return ModAnswer::Layout(1);
+    }
+    if 16 < p {
+        return ModAnswer::Layout(1);
+    }
+    if c < 1 {
+        return ModAnswer::Layout(1);
+    }
+    if 256 < c {
+        return ModAnswer::Layout(1);
+    }
+    if twelve_zeros(modfile) {
+        return ModAnswer::Accepted(p, c);
+    }
+    ModAnswer::Layout(1)
+}
+
+// A pair of a line: a part up to `most` and a location below C, or "Part 9 with location 0".
+fn pair_right(part: u16, location: u16, most: u16, slots: u16) -> bool
+    ensures { λ r. ⌜ r ≡ pairLaid slots most part location ⌝ }
+{
+    if slots <= location {
+        return false;
+    }
+    if part == 9 {
+        return location == 0;
+    }
+    part <= most
+}
+
+// The pair at a place.
+fn pair_laid(modfile: &[u8], at: usize, most: u16, slots: u16) -> bool
+    requires { ⌜ (isFieldAt (now modfile) at ≡ true) × (isFieldAt (now modfile) (at + 6) ≡ true) ⌝ }
+    ensures { λ r. ⌜ r ≡ pairAt (now (modfile .entry)) at most slots ⌝ }
+{
+    pair_right(
+        fields::number_at(modfile, at),
+        fields::number_at(modfile, at + 6),
+        most,
+        slots,
+    )
+}
+
+// The four operands of the line at a place: "part 0 to 3 or 9".
+fn operands_laid(modfile: &[u8], at: usize, slots: u16) -> bool
+    requires { ⌜ isLineAt (now modfile) at 14 ≡ true ⌝ }
+    ensures { λ r. ⌜ r ≡ operandsAt (now (modfile .entry)) at slots ⌝ }
+{
+    if !pair_laid(modfile, at + 18, 3, slots) {
+        return false;
+    }
+    if !pair_laid(modfile, at + 30, 3, slots) {
+        return false;
+    }
+    if !pair_laid(modfile, at + 42, 3, slots) {
+        return false;
+    }
+    pair_laid(modfile, at + 54, 3, slots)
+}
+
+// The line at a place has the layout of the given processor and slot, N, P and C being given.
+fn line_laid(
+    modfile: &[u8],
+    at: usize,
+    processor: u16,
+    slot: u16,
+    signals: u16,
+    processors: u16,
+    slots: u16,
+) -> bool
+    requires { ⌜ isLineAt (now modfile) at 14 ≡ true ⌝ }
+    ensures { λ r. ⌜ r ≡ lineAt (now (modfile .entry)) at processor slot signals processors slots ⌝ }
+{
+    if fields::number_at(modfile, at) != processor {
+        return false;
+    }
+    if fields::number_at(modfile, at + 6) != slot {
+        return false;
+    }
+    if signals < fields::number_at(modfile, at + 12) {
+        return false;
+    }
+    if !operands_laid(modfile, at, slots) {
+        return false;
+    }
+    if !pair_laid(modfile, at + 66, 1, slots) {
+        return false;
+    }
+    instruction::sender_right(fields::number_at(modfile, at + 78), processors)
+}
+
+// P × C.
+pub fn line_count(processors: u16, slots: u16) -> usize
+    requires { ⌜ (processors ≤ 16) × (slots ≤ 256) ⌝ }
+    ensures { λ r. ⌜ (r ≡ processors * slots) × (r ≤ 4096) ⌝ }
+{
+    (processors as usize) * (slots as usize)
+}
+
+// "by processor (0 to P-1), within it by slot (0 to C-1)": the processor and the slot of the line k after the first.
+pub fn processor_of(k: usize, slots: u16) -> u16
+    requires { ⌜ (k < 4096) × (1 ≤ slots) ⌝ }
+    ensures { λ r. ⌜ r ≡ k / slots ⌝ }
+{
+    (k / (slots as usize)) as u16
+}
+
+pub fn slot_of(k: usize, slots: u16) -> u16
+    requires { ⌜ (k < 4096) × (1 ≤ slots) ⌝ }
+    ensures { λ r. ⌜ r ≡ k % slots ⌝ }
+{
+    (k % (slots as usize)) as u16
+}
+
+// Where the line of a processor and a slot stands in MOD.
+pub fn line_place(processor: u16, slot: u16, slots: u16) -> usize
+    requires { ⌜ (processor < 16) × (slot < 256) × (slots ≤ 256) ⌝ }
+    ensures { λ r. ⌜ (r ≡ 85 * (1 + processor * slots + slot)) × (r ≤ 348160) ⌝ }
+{
+    85 * (1 + (processor as usize) * (slots as usize) + (slot as usize))
+}
+
+// The lines after the first, in their order: 20, then 21, with the first bad line.
+fn check_lines(modfile: &[u8], signals: u16, processors: u16, slots: u16) -> ModAnswer
+    requires { ⌜ Sized (now modfile) processors slots ⌝ }
+    ensures { λ r. ⌜ ((n : Network) → n .size ≡ signals → Answers processors slots (eachLine (now (modfile .entry)) (modSlot n (now (modfile .entry)))) r) ⌝ }
+{
+    let lines = line_count(processors, slots);
+    let mut answer = ModAnswer::Accepted(processors, slots);
+    let mut k: usize = 0;
+    'lines: while k < lines {
+        let at = 85 * (k + 1);
+        let mut column: usize = 0;
+        while column < 14 {
+            let Field::Number(_, _) = fields::read_field(modfile, at + 6 * column) else {
+                answer = ModAnswer::Misformed((k + 2) as u16);
+                break 'lines;
+            };
+            column += 1;
+        }
+        if !fields::ends_line(modfile, at + 84) {
+            answer = ModAnswer::Misformed((k + 2) as u16);
+            break 'lines;
+        }
+        let processor = processor_of(k, slots);
+        let slot = slot_of(k, slots);
+        if !line_laid(modfile, at, processor, slot, signals, processors, slots) {
+            answer = ModAnswer::Layout((k + 2) as u16);
+            break 'lines;
+        }
+        k += 1;
+    }
+    answer
+}
+
+// A line after the last: 20.
+fn check_surplus(modfile: &[u8], processors: u16, slots: u16) -> ModAnswer
+    requires { ⌜ Sized (now modfile) processors slots ⌝ }
+    ensures { λ r. ⌜ Answers processors slots (modSurplus (now (modfile .entry))) r ⌝ }
+{
+    let lines = line_count(processors, slots);
+    if 85 * (lines + 1) < modfile.len() {
+        return ModAnswer::Misformed((lines + 2) as u16);
+    }
+    ModAnswer::Accepted(processors, slots)
+}
+
+// The lines of MOD, N being given: 20 and 21 line by line, and 20 for a line after the last.
+pub fn check_form(modfile: &[u8], signals: u16) -> ModAnswer
+    ensures { λ r. ⌜ ((n : Network) → n .size ≡ signals → Answers (modProcessors (now (modfile .entry))) (modSlots (now (modfile .entry))) (formCheck n (now (modfile .entry))) r) ⌝ }
+{
+    let header = check_header(modfile);
+    let ModAnswer::Accepted(processors, slots) = header else {
+        return header;
+    };
+    let lines = check_lines(modfile, signals, processors, slots);
+    let ModAnswer::Accepted(_, _) = lines else {
+        return lines;
+    };
+    check_surplus(modfile, processors, slots)
+}

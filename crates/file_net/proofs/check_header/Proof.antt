@@ -1,0 +1,63 @@
+use mathlib.Core.Path.{sym, _∙_, refl}
+use native.Mathlib.Omega.{arith}
+use borrow.Author.Tests.{not-true, not-false}
+use Rattle.file_net.proofs.Faults.{refused, passed}
+use Rattle.file_net.proofs.Header.{line-form, line-none, header-10, header-first, header-none, header-many, header-rest, header-right}
+use borrow.Author.Needs.{needs}
+use Rattle.file_net.proofs.check_header.Statement.{statement}
+use Rattle.file_net.proofs.check_header.Tie as tie
+
+read-line-requires : tie.Need-read-line-requires
+read-line-requires c κs = search needs
+
+enum-told : tie.Need-enum-told
+enum-told c = search needs
+
+enum-told-2 : tie.Need-enum-told-2
+enum-told-2 c = search needs
+
+returns : tie.Need-returns
+returns c = refused _ _ _ 10 1 refl (header-10 _ _ (line-none _ 0 12 (sym (c .before .before .read-line .ensures) ∙ c .enum-told2 .given .1)))
+
+field-requires : tie.Need-field-requires
+field-requires c κs = (omega arith, omega arith, (line-form _ 0 12 _ (sym (c .before .before .read-line .ensures) ∙ c .enum-told .given .1)))
+
+returns-2 : tie.Need-returns-2
+returns-2 c = refused _ _ _ 11 1 refl (header-first _ _ (line-form _ 0 12 _ (sym (c .before .before .before .before .read-line .ensures) ∙ c .before .before .enum-told .given .1)) _ (c .before .field .ensures) (c .if1 .taken))
+
+field-requires-2 : tie.Need-field-requires-2
+field-requires-2 c κs = (omega arith, omega arith, (line-form _ 0 12 _ (sym (c .before .before .before .before .read-line .ensures) ∙ c .before .before .enum-told .given .1)))
+
+returns-3 : tie.Need-returns-3
+returns-3 c = refused _ _ _ 11 1 refl (header-none _ _ (line-form _ 0 12 _ (sym (c .before .before .before .before .before .before .read-line .ensures) ∙ c .before .before .before .before .enum-told .given .1)) _ (c .before .before .before .field .ensures) (c .before .before .if1 .left) _ (c .before .field2 .ensures) (c .if2 .taken))
+
+returns-4 : tie.Need-returns-4
+returns-4 c = refused _ _ _ 11 1 refl (header-many _ _ (line-form _ 0 12 _ (sym (c .before .before .before .before .before .before .before .read-line .ensures) ∙ c .before .before .before .before .before .enum-told .given .1)) _ (c .before .before .before .before .field .ensures) (c .before .before .before .if1 .left) _ (c .before .before .field2 .ensures) (c .before .if2 .left) (c .if3 .taken))
+
+ten-zeros-requires : tie.Need-ten-zeros-requires
+ten-zeros-requires c κs = (omega arith, (line-form _ 0 12 _ (sym (c .before .before .before .before .before .before .before .read-line .ensures) ∙ c .before .before .before .before .before .enum-told .given .1)))
+
+returns-5 : tie.Need-returns-5
+returns-5 c = refused _ _ _ 11 1 refl (header-rest _ _ (line-form _ 0 12 _ (sym (c .before .before .before .before .before .before .before .before .before .read-line .ensures) ∙ c .before .before .before .before .before .before .before .enum-told .given .1)) _ (c .before .before .before .before .before .before .field .ensures) (c .before .before .before .before .before .if1 .left) _ (c .before .before .before .before .field2 .ensures) (c .before .before .before .if2 .left) (c .before .before .if3 .left) (sym (c .before .ten-zeros .ensures) ∙ not-true _ (c .if4 .taken)))
+
+returns-6 : tie.Need-returns-6
+returns-6 c =
+    passed _ _ _ (header-right _ _ (line-form _ 0 12 _ (sym (c .before .before .before .before .before .before .before .before .before .read-line .ensures) ∙ c .before .before .before .before .before .before .before .enum-told .given .1)) _ (c .before .before .before .before .before .before .field .ensures) (c .before .before .before .before .before .if1 .left) _ (c .before .before .before .before .field2 .ensures) (c .before .before .before .if2 .left) (c .before .before .if3 .left) (sym (c .before .ten-zeros .ensures) ∙ not-false _ (c .if4 .left)))
+    (c .before .before .before .before .field2 .ensures)
+
+pub check-header-spec : {M : Type 1} → statement M
+check-header-spec =
+    tie.close
+    (tie.spec
+    read-line-requires
+    enum-told
+    enum-told-2
+    returns
+    field-requires
+    returns-2
+    field-requires-2
+    returns-3
+    returns-4
+    ten-zeros-requires
+    returns-5
+    returns-6)

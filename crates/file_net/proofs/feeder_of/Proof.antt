@@ -1,0 +1,47 @@
+use Prim.Native.Nat.{_/_, _%_}
+use mathlib.Core.Path.{sym}
+use native.Mathlib.Omega.{arith}
+use Rattle.file_net.proofs.Loading.{feeder-other, feeder-some, feeder-none}
+use borrow.Author.Needs.{needs}
+use Rattle.file_net.proofs.feeder_of.Statement.{statement}
+use Rattle.file_net.proofs.feeder_of.Tie as tie
+
+shared-slice-read-if1 : tie.Need-shared-slice-read-if1
+shared-slice-read-if1 c = search needs
+
+returns : tie.Need-returns
+returns c = sym (feeder-other _ _ _ (c .if1 .taken))
+
+add-field : tie.Need-add-field
+add-field c = search needs
+
+field-requires : tie.Need-field-requires
+field-requires c κs = (omega (arith, c .before .before .before .before .pre .0 .small), omega arith, c .before .before .before .before .pre .0 .right _ (omega arith))
+
+cast-if2 : tie.Need-cast-if2
+cast-if2 c = search needs
+
+shared-slice-read-if2 : tie.Need-shared-slice-read-if2
+shared-slice-read-if2 c =
+    let pre = c .before .before .before .before .before .before .pre in
+    let i = c .before .before .before .before .before .before .args .i in
+    omega (arith, c .before .field .ensures, pre .0 .sources (i / 4) (i % 4) (omega arith) (omega arith) (omega arith), pre .0 .small)
+
+returns-2 : tie.Need-returns-2
+returns-2 c = sym (feeder-some _ _ _ _ (c .before .before .field .ensures) (c .before .before .before .if1 .left) (c .if2 .taken))
+
+returns-3 : tie.Need-returns-3
+returns-3 c = sym (feeder-none _ _ _ _ (c .before .before .field .ensures) (c .before .before .before .if1 .left) (c .if2 .left))
+
+pub feeder-of-spec : {M : Type 1} → statement M
+feeder-of-spec =
+    tie.close
+    (tie.spec
+    shared-slice-read-if1
+    returns
+    add-field
+    field-requires
+    cast-if2
+    shared-slice-read-if2
+    returns-2
+    returns-3)

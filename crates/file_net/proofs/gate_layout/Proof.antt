@@ -1,0 +1,49 @@
+use mathlib.Core.Path.{sym, _∙_, ap}
+use borrow.Author.Tests.{not-true, not-false}
+use Rattle.gates.specs.Function.{isFunction}
+use Rattle.file_net.proofs.Layouts.{gate-low, gate-high, gate-unsupplied, gate-supplied}
+use borrow.Author.Needs.{needs}
+use Rattle.file_net.proofs.gate_layout.Statement.{statement}
+use Rattle.file_net.proofs.gate_layout.Tie as tie
+
+field-requires : tie.Need-field-requires
+field-requires c κs = search needs
+
+returns : tie.Need-returns
+returns c = sym (gate-low _ _ _ (c .before .field .ensures) (c .if1 .taken))
+
+returns-2 : tie.Need-returns-2
+returns-2 c = sym (gate-high _ _ _ (c .before .before .field .ensures) (c .if2 .taken))
+
+field-requires-2 : tie.Need-field-requires-2
+field-requires-2 c κs = search needs
+
+is-function-requires : tie.Need-is-function-requires
+is-function-requires c κs = search needs
+
+returns-3 : tie.Need-returns-3
+returns-3 c =
+    sym (gate-unsupplied _ _ _ (c .before .before .before .before .before .field .ensures) (c .before .before .before .before .if1 .left) (c .before .before .before .if2 .left)
+    (ap isFunction (sym (c .before .before .field2 .ensures)) ∙ sym (c .before .is-function .ensures) ∙ not-true _ (c .if3 .taken)))
+
+translations-supplied-requires : tie.Need-translations-supplied-requires
+translations-supplied-requires c κs = search needs
+
+returns-4 : tie.Need-returns-4
+returns-4 c =
+    c .translations-supplied .ensures
+    ∙ sym (gate-supplied _ _ _ (c .before .before .before .before .before .before .field .ensures) (c .before .before .before .before .before .if1 .left) (c .before .before .before .before .if2 .left)
+    (ap isFunction (sym (c .before .before .before .field2 .ensures)) ∙ sym (c .before .before .is-function .ensures) ∙ not-false _ (c .before .if3 .left)))
+
+pub gate-layout-spec : {M : Type 1} → statement M
+gate-layout-spec =
+    tie.close
+    (tie.spec
+    field-requires
+    returns
+    returns-2
+    field-requires-2
+    is-function-requires
+    returns-3
+    translations-supplied-requires
+    returns-4)

@@ -1,0 +1,72 @@
+use Rattle.file_net.proofs.Loading.{edges-more, edges-end}
+use Prim.Native.Nat.{_≤_, _-_, _*_}
+use mathlib.Core.Path.{_≡_}
+use native.Mathlib.Omega.{arith}
+use lib.ListN.{length, length-set}
+use Rattle.file_net.specs.Graph.{edgesTo}
+use borrow.Author.Needs.{needs}
+use Rattle.file_net.proofs.load_edges.Statement.{statement}
+use Rattle.file_net.proofs.load_edges.Tie as tie
+
+abbrev Inv-loop : tie.InvT-loop
+Inv-loop net size follow edges₀ k₀ edges k =
+    (k ≤ 4 * size) × (length edges ≡ 16388) × (edges ≡ edgesTo net follow edges₀ k)
+
+abbrev μ-loop : tie.MeasureT-loop
+μ-loop net size follow edges₀ k₀ edges k = 4 * size - k
+
+loop-holds : tie.Need-loop-holds Inv-loop μ-loop
+unfolding edgesTo
+loop-holds c = search needs
+
+mul-loop : tie.Need-mul-loop Inv-loop μ-loop
+mul-loop c = search needs
+
+add-feeder-of : tie.Need-add-feeder-of Inv-loop μ-loop
+add-feeder-of c = search needs
+
+feeder-of-requires : tie.Need-feeder-of-requires Inv-loop μ-loop
+feeder-of-requires c κs = search needs
+
+add-edges : tie.Need-add-edges Inv-loop μ-loop
+add-edges c = search needs
+
+mul-edges : tie.Need-mul-edges Inv-loop μ-loop
+mul-edges c = search needs
+
+slice-write-edges : tie.Need-slice-write-edges Inv-loop μ-loop
+slice-write-edges c = search needs
+
+add-k : tie.Need-add-k Inv-loop μ-loop
+add-k c = search needs
+
+loop-less : tie.Need-loop-less Inv-loop μ-loop
+loop-less c = search needs
+
+loop-again : tie.Need-loop-again Inv-loop μ-loop
+loop-again c = (omega arith, simp length-set (c .before .before .loop .inv .1), edges-more _ _ _ _ _ _ (c .before .before .loop .inv .2) (c .feeder-of .ensures))
+
+same-length : tie.Need-same-length Inv-loop μ-loop
+same-length c = search needs
+
+returns : tie.Need-returns Inv-loop μ-loop
+returns c = edges-end _ _ _ _ _ _ (c .before .loop .inv .2) (c .before .loop .inv .0) (c .loop-test .left)
+
+pub load-edges-spec : {M : Type 1} → statement M
+load-edges-spec =
+    tie.close
+    (tie.spec
+    Inv-loop
+    μ-loop
+    loop-holds
+    mul-loop
+    add-feeder-of
+    feeder-of-requires
+    add-edges
+    mul-edges
+    slice-write-edges
+    add-k
+    loop-less
+    loop-again
+    same-length
+    returns)

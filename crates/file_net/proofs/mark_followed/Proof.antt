@@ -1,0 +1,68 @@
+use Rattle.file_net.proofs.Loading.{follow-more, follow-ends}
+use Prim.Native.Nat.{_≤_, _-_}
+use mathlib.Core.Path.{_≡_}
+use native.Mathlib.Omega.{arith}
+use lib.ListN.{length, length-set}
+use Rattle.file_net.specs.Graph.{followTo}
+use borrow.Author.Needs.{needs}
+use Rattle.file_net.proofs.mark_followed.Statement.{statement}
+use Rattle.file_net.proofs.mark_followed.Tie as tie
+
+abbrev Inv-loop : tie.InvT-loop
+Inv-loop net size follow₀ k₀ follow k =
+    (k ≤ size) × (length follow ≡ 4097) × (follow ≡ followTo net follow₀ k)
+
+abbrev μ-loop : tie.MeasureT-loop
+μ-loop net size follow₀ k₀ follow k = size - k
+
+loop-holds : tie.Need-loop-holds Inv-loop μ-loop
+unfolding followTo
+loop-holds c = search needs
+
+add-field : tie.Need-add-field Inv-loop μ-loop
+add-field c = search needs
+
+field-requires : tie.Need-field-requires Inv-loop μ-loop
+field-requires c κs = (omega (arith, c .before .before .before .before .pre .0 .small), omega arith, c .before .before .before .before .pre .0 .right _ (omega arith))
+
+mark-of-requires : tie.Need-mark-of-requires Inv-loop μ-loop
+mark-of-requires c κs = search needs
+
+add-follow : tie.Need-add-follow Inv-loop μ-loop
+add-follow c = search needs
+
+slice-write-follow : tie.Need-slice-write-follow Inv-loop μ-loop
+slice-write-follow c = search needs
+
+add-k : tie.Need-add-k Inv-loop μ-loop
+add-k c = search needs
+
+loop-less : tie.Need-loop-less Inv-loop μ-loop
+loop-less c = search needs
+
+loop-again : tie.Need-loop-again Inv-loop μ-loop
+loop-again c = (omega arith, simp length-set (c .before .before .before .loop .inv .1), follow-more _ _ _ _ _ _ (c .before .before .before .loop .inv .2) (c .before .field .ensures) (c .mark-of .ensures))
+
+same-length : tie.Need-same-length Inv-loop μ-loop
+same-length c = search needs
+
+returns : tie.Need-returns Inv-loop μ-loop
+returns c = follow-ends _ _ _ _ _ (c .before .loop .inv .2) (c .before .loop .inv .0) (c .loop-test .left)
+
+pub mark-followed-spec : {M : Type 1} → statement M
+mark-followed-spec =
+    tie.close
+    (tie.spec
+    Inv-loop
+    μ-loop
+    loop-holds
+    add-field
+    field-requires
+    mark-of-requires
+    add-follow
+    slice-write-follow
+    add-k
+    loop-less
+    loop-again
+    same-length
+    returns)

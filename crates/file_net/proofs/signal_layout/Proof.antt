@@ -1,0 +1,40 @@
+use mathlib.Core.Path.{sym, _∙_}
+use Rattle.file_net.proofs.Layouts.{layout-other, layout-input, layout-gate}
+use borrow.Author.Needs.{needs}
+use Rattle.file_net.proofs.signal_layout.Statement.{statement}
+use Rattle.file_net.proofs.signal_layout.Tie as tie
+
+field-requires : tie.Need-field-requires
+field-requires c κs = search needs
+
+cast-if1 : tie.Need-cast-if1
+cast-if1 c = search needs
+
+returns : tie.Need-returns
+returns c = sym (layout-other _ _ _ (c .before .field .ensures) (c .if1 .taken))
+
+input-layout-requires : tie.Need-input-layout-requires
+input-layout-requires c κs = search needs
+
+returns-2 : tie.Need-returns-2
+returns-2 c = sym (layout-input _ _ _ (c .before .before .before .field .ensures) (c .before .before .if1 .left) (sym (c .before .input-layout .ensures) ∙ c .if2 .taken))
+
+gate-layout-requires : tie.Need-gate-layout-requires
+gate-layout-requires c κs = search needs
+
+returns-3 : tie.Need-returns-3
+returns-3 c =
+    c .gate-layout .ensures
+    ∙ sym (layout-gate _ _ _ (c .before .before .before .before .field .ensures) (c .before .before .before .if1 .left) (sym (c .before .before .input-layout .ensures) ∙ c .before .if2 .left))
+
+pub signal-layout-spec : {M : Type 1} → statement M
+signal-layout-spec =
+    tie.close
+    (tie.spec
+    field-requires
+    cast-if1
+    returns
+    input-layout-requires
+    returns-2
+    gate-layout-requires
+    returns-3)

@@ -1,0 +1,104 @@
+-- STIM line by line. In an accepted STIM every line up to the end line can be read, the lines before it give values, and it gives T.
+use Prim.Native.Nat.{ℕ, _+_, _*_, _<_, _≤_}
+use mathlib.Core.Path.{_≡_, refl, sym}
+use mathlib.Core.Bool.{true, false}
+use mathlib.Core.List.{List}
+use native.Mathlib.Omega.{arith}
+use native.Mathlib.Decide.{ℕ-discrete}
+use lib.ListN.{length}
+use Rattle.fields.specs.Field.{isFieldAt}
+use Rattle.fields.specs.Line.{isLineAt}
+use Rattle.model.specs.Refusal.{pass}
+use Rattle.model.specs.Network.{Network}
+use Rattle.model.specs.Stimulus.{stimLine, stimTime, stimSignal, stimValue, stimCheck, stimCount, endTime}
+use Rattle.model.proofs.Accepted.{stim-right}
+use Rattle.model.proofs.RightLine.{line-field, line-within}
+use Rattle.file_stim.specs.declared.Numbers.{Numbers}
+use Rattle.file_stim.specs.declared.StimAnswer.the-variants.{Accepted}
+use Rattle.file_stim.specs.declared.Cursor.{Cursor}
+use Rattle.file_stim.specs.declared.Step.the-variants.{Given, End}
+use Rattle.file_stim.specs.Answer.{Answers}
+use Rattle.file_stim.specs.Judging.{ends}
+use Rattle.file_stim.specs.Stepping.{stepAt}
+use Rattle.file_stim.proofs.Judging.{Reads, ends-is}
+
+-- the fields of a right line
+module _ (stim : List ℕ) (line : ℕ) (right : isLineAt stim (stimLine line) 3 ≡ true) where
+  pub time-field : isFieldAt stim (19 * line) ≡ true
+  time-field =
+      let e : 19 * line + 6 * 0 ≡ 19 * line = omega arith in
+      rw e at (line-field stim (19 * line) 3 right 0 (omega arith))
+
+  pub signal-field : isFieldAt stim (19 * line + 6) ≡ true
+  signal-field = line-field stim (19 * line) 3 right 1 (omega arith)
+
+  pub value-field : isFieldAt stim (19 * line + 12) ≡ true
+  value-field = line-field stim (19 * line) 3 right 2 (omega arith)
+
+  pub line-fits : 19 * line + 19 ≤ length stim
+  line-fits = line-within stim (19 * line) 3 right
+
+-- the step from the numbers of a line
+module _ (stim : List ℕ) (line : ℕ) (here : Numbers) (reads : Reads stim line here) where
+  pub step-ends : ends here ≡ true → stepAt stim line ≡ End (here .time)
+  unfolding stepAt
+  step-ends e = rw (← ends-is stim line here reads, e, reads .time)
+
+  pub step-gives : ends here ≡ false → stepAt stim line ≡ Given (here .time) (here .signal) (here .value) (record { line = line + 1 })
+  unfolding stepAt
+  step-gives e = rw (← ends-is stim line here reads, e, reads .time, reads .signal, reads .value)
+
+-- a step that gives a value, at a line before the end line
+pub record GivenAt (stim : List ℕ) (line time signal value : ℕ) (next : Cursor) : Type 0 where
+  pub before-end : line < stimCount stim
+  pub time-is : time ≡ stimTime stim line
+  pub signal-is : signal ≡ stimSignal stim line
+  pub value-is : value ≡ stimValue stim line
+  pub follows : next .line ≡ line + 1
+
+-- An accepted STIM
+module _ (n : Network) (stim : List ℕ) (accepted : stimCheck n stim ≡ pass) where
+  -- what `Cursor::next` requires
+  pub line-right : (line : ℕ) → line ≤ stimCount stim → isLineAt stim (stimLine line) 3 ≡ true
+  line-right line h = go (ℕ-discrete line (stimCount stim))
+    where
+      go : Dec (line ≡ stimCount stim) → isLineAt stim (stimLine line) 3 ≡ true
+      go (yes e) = rw e (stim-right n stim accepted .end .line)
+      go (no d) = stim-right n stim accepted .given line (omega arith) .line
+
+  pub step-before-end : (line : ℕ) → line < stimCount stim
+      → stepAt stim line ≡ Given (stimTime stim line) (stimSignal stim line) (stimValue stim line) (record { line = line + 1 })
+  unfolding stepAt
+  step-before-end line h = rw (stim-right n stim accepted .given line h .no-end)
+
+  pub step-at-end : stepAt stim (stimCount stim) ≡ End (endTime stim)
+  unfolding stepAt endTime
+  step-at-end = rw (stim-right n stim accepted .end .is-end)
+
+  -- what a step tells
+  pub given-at : (line : ℕ) → line ≤ stimCount stim → (time signal value : ℕ) (next : Cursor)
+      → stepAt stim line ≡ Given time signal value next → GivenAt stim line time signal value next
+  given-at line h time signal value next e = go (ℕ-discrete line (stimCount stim))
+    where
+      go : Dec (line ≡ stimCount stim) → GivenAt stim line time signal value next
+      go (yes q) = absurd (let z : _≡_ {A = ℕ} 0 1 = cc step-at-end in omega arith)
+      go (no d) =
+          let low : line < stimCount stim = omega arith in
+          let is = step-before-end line low in
+          record { before-end = low; time-is = cc; signal-is = cc; value-is = cc; follows = cc }
+
+  pub end-at : (line : ℕ) → line ≤ stimCount stim → (time : ℕ) → stepAt stim line ≡ End time
+      → (line ≡ stimCount stim) × (time ≡ endTime stim)
+  end-at line h time e = go (ℕ-discrete line (stimCount stim))
+    where
+      go : Dec (line ≡ stimCount stim) → (line ≡ stimCount stim) × (time ≡ endTime stim)
+      go (yes q) = (q, cc step-at-end)
+      go (no d) =
+          let low : line < stimCount stim = omega arith in
+          let is = step-before-end line low in
+          absurd (let z : _≡_ {A = ℕ} 0 1 = cc in omega arith)
+
+-- what the answer `Accepted` tells
+pub accepted-passes : (n : Network) (stim : List ℕ) (count : ℕ) → Answers n stim (Accepted count)
+    → (stimCheck n stim ≡ pass) × (count ≡ stimCount stim)
+accepted-passes n stim count a = (sym (a .refusal), a .lines count refl)

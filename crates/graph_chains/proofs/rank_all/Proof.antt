@@ -1,0 +1,62 @@
+-- `rank_all` ranks what can be ranked. The invariant: ranks are right, and after a pass that ranked none each node without one has a feeder
+-- without one. A pass that ranks some leaves fewer nodes without one.
+use Prim.Native.Nat.{_+_, min}
+use mathlib.Core.Path.{_≡_, sym, _∙_}
+use native.Mathlib.Omega.{arith}
+use Rattle.graph_chains.specs.Zeros.{zeros}
+use Rattle.graph_chains.specs.Passes.{RankedSoFar}
+use Rattle.graph_chains.proofs.Passing.{OpenTo, start-ranked, pass-ends, pass-fewer, all-ranked}
+use borrow.Author.Needs.{needs}
+use Rattle.graph_chains.proofs.rank_all.Statement.{statement}
+use Rattle.graph_chains.proofs.rank_all.Tie as tie
+
+abbrev Inv-loop : tie.InvT-loop
+Inv-loop follow edges size ranks₀ count₀ ranks count =
+    RankedSoFar follow edges size ranks × (count ≡ 0 → OpenTo follow edges size ranks size)
+
+abbrev μ-loop : tie.MeasureT-loop
+μ-loop follow edges size ranks₀ count₀ ranks count = zeros ranks + min count 1
+
+clear-requires : tie.Need-clear-requires Inv-loop μ-loop
+clear-requires c κs = search needs
+
+rank-deep-requires : tie.Need-rank-deep-requires Inv-loop μ-loop
+rank-deep-requires c κs =
+    let s = c .before .before .before .before .before .before .before .before in
+    (s .pre .0, start-ranked _ _ _ (s .args .ranks .now) _ (s .pre .1) (c .before .before .before .clear .ensures))
+
+loop-holds : tie.Need-loop-holds Inv-loop μ-loop
+loop-holds c = (c .before .before .rank-deep .ensures, λ e. absurd (omega (arith, e)))
+
+visit-all-requires : tie.Need-visit-all-requires Inv-loop μ-loop
+visit-all-requires c κs = (c .before .before .before .before .before .before .before .before .before .before .before .before .before .before .pre .0, c .before .before .loop .inv .0)
+
+loop-less : tie.Need-loop-less Inv-loop μ-loop
+loop-less c =
+    let l = c .before .before .before .before .before .loop in
+    let v = c .before .before .visit-all in
+    omega (arith, pass-fewer _ _ _ (c .before .before .before .before .before .before .before .before .before .before .before .before .before .before .before .before .before .pre .0) _ (l .inv .0) _ (v .ensures), c .before .before .before .before .loop-test .taken)
+
+loop-again : tie.Need-loop-again Inv-loop μ-loop
+loop-again c = pass-ends _ _ _ (c .before .before .before .before .before .before .before .before .before .before .before .before .before .before .before .before .before .pre .0) _ (c .before .before .before .before .before .loop .inv .0) _ (c .before .before .visit-all .ensures)
+
+same-length : tie.Need-same-length Inv-loop μ-loop
+same-length c = c .before .loop .inv .0 .long ∙ sym (c .before .before .before .before .before .before .before .before .before .before .before .before .before .pre .1)
+
+returns : tie.Need-returns Inv-loop μ-loop
+returns c = let i = c .before .loop .inv in all-ranked (i .0) (i .1 (c .loop-test .left))
+
+pub rank-all-spec : {M : Type 1} → statement M
+rank-all-spec =
+    tie.close
+    (tie.spec
+    Inv-loop
+    μ-loop
+    clear-requires
+    rank-deep-requires
+    loop-holds
+    visit-all-requires
+    loop-less
+    loop-again
+    same-length
+    returns)

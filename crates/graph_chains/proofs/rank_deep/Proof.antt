@@ -1,0 +1,86 @@
+-- `rank_deep` keeps ranks right: the invariant has that, nodes on the way, and that each step makes it longer by one at most.
+use Prim.Native.Nat.{ℕ, _+_, _-_, _≤_}
+use mathlib.Core.Path.{_≡_, sym, _∙_}
+use native.Mathlib.Omega.{arith}
+use lib.ListN.{length, length-replicate}
+use Rattle.graph_chains.specs.Passes.{RankedSoFar}
+use Rattle.graph_chains.specs.Descent.{Way}
+use Rattle.graph_chains.proofs.Descending.{lined-up-way}
+use borrow.Author.Needs.{needs}
+use Rattle.graph_chains.proofs.rank_deep.Statement.{statement}
+use Rattle.graph_chains.proofs.rank_deep.Tie as tie
+
+abbrev Inv-loop : tie.InvT-loop
+Inv-loop follow edges size ranks₀ way₀ depth₀ steps₀ ranks way depth steps =
+    (length way ≡ 16384) × RankedSoFar follow edges size ranks × Way size way depth × (depth ≤ size + steps) × (steps ≤ 12288)
+
+abbrev μ-loop : tie.MeasureT-loop
+μ-loop follow edges size ranks₀ way₀ depth₀ steps₀ ranks way depth steps = 12288 - steps
+
+slice-aggregate-line-up : tie.Need-slice-aggregate-line-up Inv-loop μ-loop
+slice-aggregate-line-up c = search needs
+
+line-up-requires : tie.Need-line-up-requires Inv-loop μ-loop
+line-up-requires c κs = search needs
+
+loop-holds : tie.Need-loop-holds Inv-loop μ-loop
+loop-holds c = (
+  c .before .line-up .kept .0 ∙ length-replicate {A = ℕ} 16384 0,
+  c .before .before .before .before .before .before .pre .1,
+  lined-up-way _ _ (c .before .line-up .ensures),
+  omega arith,
+  omega arith,
+)
+
+same-length : tie.Need-same-length Inv-loop μ-loop
+same-length c = c .before .before .loop .inv .1 .long ∙ sym (c .before .before .before .before .before .before .before .before .before .pre .1 .long)
+
+returns : tie.Need-returns Inv-loop μ-loop
+returns c = c .before .before .loop .inv .1
+
+slice-aggregate-descend : tie.Need-slice-aggregate-descend Inv-loop μ-loop
+slice-aggregate-descend c = search needs
+
+descend-requires : tie.Need-descend-requires Inv-loop μ-loop
+descend-requires c κs =
+    let i = c .before .before .before .before .loop .inv in
+    let s = c .before .before .before .before .before .before .before .before .before .before .before in
+    let some = c .before .before .if1 .left in
+    (s .pre .0, (i .1, (i .2, (omega arith, omega (arith, s .pre .0 .each .small)))))
+
+add-steps : tie.Need-add-steps Inv-loop μ-loop
+add-steps c = search needs
+
+loop-less : tie.Need-loop-less Inv-loop μ-loop
+loop-less c = search needs
+
+loop-again : tie.Need-loop-again Inv-loop μ-loop
+loop-again c =
+    let i = c .before .before .before .before .before .before .before .before .loop .inv in
+    let d = c .before .before .before .descend in
+    (d .kept .1 .1 .1 .1 .0 ∙ i .0, d .ensures .so-far, d .ensures .nodes, omega (arith, d .ensures .near, i .3), omega arith)
+
+same-length-2 : tie.Need-same-length-2 Inv-loop μ-loop
+same-length-2 c = c .before .loop .inv .1 .long ∙ sym (c .before .before .before .before .before .before .before .before .pre .1 .long)
+
+returns-2 : tie.Need-returns-2 Inv-loop μ-loop
+returns-2 c = c .before .loop .inv .1
+
+pub rank-deep-spec : {M : Type 1} → statement M
+rank-deep-spec =
+    tie.close
+    (tie.spec
+    Inv-loop
+    μ-loop
+    slice-aggregate-line-up
+    line-up-requires
+    loop-holds
+    same-length
+    returns
+    slice-aggregate-descend
+    descend-requires
+    add-steps
+    loop-less
+    loop-again
+    same-length-2
+    returns-2)

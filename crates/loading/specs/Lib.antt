@@ -1,3 +1,0 @@
-pub mod Loaded
-pub mod Scheduling
-pub mod Values

@@ -1,0 +1,26 @@
+use Rattle.buffers_tables.specs.Panel.{handIn}
+use Rattle.buffers_tables.specs.Tables.{networkIn, moduleIn}
+use Rattle.machine_run.proofs.Cycles.{cycle-done}
+use borrow.Author.Needs.{needs}
+use Rattle.machine_run.proofs.run_cycle.Statement.{statement}
+use Rattle.machine_run.proofs.run_cycle.Tie as tie
+
+run-slots-requires : tie.Need-run-slots-requires
+run-slots-requires c κs = search needs
+
+alternate-requires : tie.Need-alternate-requires
+alternate-requires c κs = search needs
+
+same-length : tie.Need-same-length
+same-length c = search needs
+
+returns : tie.Need-returns
+unfolding moduleIn
+returns c =
+    let s = c .before .before .before .before .before .before .before .before .before .before .before in
+    let t = s .pre .0 in
+    cycle-done (networkIn (s .args .panel .now) (s .args .program .now)) (moduleIn (s .args .panel .now) (s .args .program .now)) (t .laid) (t .processors-high) (t .slots-high) (handIn (s .args .panel .now)) (s .args .memory .now) _ _ _ _
+    (s .pre .1 .1 .0) (s .pre .1 .1 .1) (c .before .before .before .before .before .before .run-slots .ensures) (c .before .before .alternate .ensures)
+
+pub run-cycle-spec : {M : Type 1} → statement M
+run-cycle-spec = tie.close (tie.spec run-slots-requires alternate-requires same-length returns)

@@ -1,0 +1,99 @@
+-- The invariant: the first p elements are the results, and what is sent.
+use Prim.Native.Nat.{_<_, _≤_, _-_}
+use mathlib.Core.Path.{_≡_}
+use lib.ListN.{length, length-set}
+use Rattle.model.specs.Machine.{sent as sentBy}
+use Rattle.buffers_memory.specs.Memory.{memoryOf}
+use Rattle.buffers_tables.specs.Panel.{processorsIn, handIn}
+use Rattle.buffers_tables.specs.Tables.{networkIn, moduleIn}
+use Rattle.machine_slot.proofs.Stores.{first-more}
+use Rattle.machine_slot.proofs.Fetching.{line-signal, evaluated-line, sent-line}
+use borrow.Author.Needs.{needs}
+use Rattle.machine_slot.specs.Storing.{evaluated, FirstAre}
+use native.Mathlib.Omega.{arith}
+use Rattle.machine_slot.proofs.fetch_all.Statement.{statement}
+use Rattle.machine_slot.proofs.fetch_all.Tie as tie
+
+abbrev Inv-loop : tie.InvT-loop
+Inv-loop panel program memory processors slot results₀ sent₀ p₀ results sent p =
+    (p ≤ processors) × (length results ≡ 16) × (length sent ≡ 16)
+    × FirstAre p (λ q. evaluated (networkIn panel program) (moduleIn panel program) (handIn panel) (memoryOf memory) q (slot .0)) results
+    × FirstAre p (λ q. sentBy (moduleIn panel program) (memoryOf memory) q (slot .0)) sent
+
+abbrev μ-loop : tie.MeasureT-loop
+μ-loop panel program memory processors slot results₀ sent₀ p₀ results sent p = processors - p
+
+loop-holds : tie.Need-loop-holds Inv-loop μ-loop
+loop-holds c =
+    let s = c .before .before .before .before .before in
+    (omega arith, s .pre .1 .1 .2, s .pre .1 .1 .3, (λ q l. absurd (omega arith)), λ q l. absurd (omega arith))
+
+instruction-in-requires : tie.Need-instruction-in-requires Inv-loop μ-loop
+instruction-in-requires c κs = search needs
+
+evaluate-requires : tie.Need-evaluate-requires Inv-loop μ-loop
+evaluate-requires c κs =
+    let s = c .before .before .before .before .before .before .before .before in
+    let inside : c .before .before .loop .p < processorsIn (s .args .panel .now) = omega (arith, s .pre .1 .1 .0, c .before .loop-test .taken) in
+    let low = line-signal _ _ (s .pre .0) (c .before .before .loop .p) (s .args .slot .0) inside (s .pre .1 .1 .1) in
+    ((s .pre .0 .panel-size, omega (arith, s .pre .0 .processors-high, inside), rw (c .instruction-in .ensures) low), s .pre .1 .0)
+
+slice-write-results : tie.Need-slice-write-results Inv-loop μ-loop
+slice-write-results c = search needs
+
+fetch-requires : tie.Need-fetch-requires Inv-loop μ-loop
+fetch-requires c κs = search needs
+
+slice-write-sent : tie.Need-slice-write-sent Inv-loop μ-loop
+slice-write-sent c = search needs
+
+add-p : tie.Need-add-p Inv-loop μ-loop
+add-p c = search needs
+
+loop-less : tie.Need-loop-less Inv-loop μ-loop
+loop-less c = search needs
+
+loop-again : tie.Need-loop-again Inv-loop μ-loop
+loop-again c =
+    let s = c .before .before .before .before .before .before .before .before .before .before in
+    let loop = c .before .before .before .before .loop in
+    let line = c .before .before .instruction-in .ensures in
+    let w = memoryOf (s .args .memory .now) in (
+      omega arith,
+      simp length-set (loop .inv .1),
+      simp length-set (loop .inv .2),
+      first-more _ (loop .results) (loop .p) _ (omega arith) (loop .inv .3)
+          (rw (line, evaluated-line (s .args .panel .now) (s .args .program .now) w (loop .p) (s .args .slot .0)) at (c .before .evaluate .ensures)),
+      first-more _ (loop .sent) (loop .p) _ (omega arith) (loop .inv .4)
+          (rw (line, sent-line (s .args .panel .now) (s .args .program .now) w (loop .p) (s .args .slot .0)) at (c .fetch .ensures)),
+    )
+
+same-length : tie.Need-same-length Inv-loop μ-loop
+same-length c = search needs
+
+same-length-2 : tie.Need-same-length-2 Inv-loop μ-loop
+same-length-2 c = search needs
+
+returns : tie.Need-returns Inv-loop μ-loop
+returns c =
+    let i = c .before .loop .inv in
+    (λ q l. i .3 q (omega arith), λ q l. i .4 q (omega arith))
+
+pub fetch-all-spec : {M : Type 1} → statement M
+fetch-all-spec =
+    tie.close
+    (tie.spec
+    Inv-loop
+    μ-loop
+    loop-holds
+    instruction-in-requires
+    evaluate-requires
+    slice-write-results
+    fetch-requires
+    slice-write-sent
+    add-p
+    loop-less
+    loop-again
+    same-length
+    same-length-2
+    returns)

@@ -1,0 +1,49 @@
+use Rattle.buffers_tables.specs.Panel.{handIn}
+use Rattle.buffers_tables.specs.Tables.{networkIn, moduleIn}
+use Rattle.machine_slot.proofs.Slots.{slot-finished}
+use borrow.Author.Needs.{needs}
+use Rattle.machine_slot.proofs.run_slot.Statement.{statement}
+use Rattle.machine_slot.proofs.run_slot.Tie as tie
+
+slice-aggregate-fetch-all : tie.Need-slice-aggregate-fetch-all
+slice-aggregate-fetch-all c = search needs
+
+slice-aggregate-fetch-all-2 : tie.Need-slice-aggregate-fetch-all-2
+slice-aggregate-fetch-all-2 c = search needs
+
+fetch-all-requires : tie.Need-fetch-all-requires
+fetch-all-requires c κs = search needs
+
+slice-aggregate-store-all : tie.Need-slice-aggregate-store-all
+slice-aggregate-store-all c = search needs
+
+slice-aggregate-store-all-2 : tie.Need-slice-aggregate-store-all-2
+slice-aggregate-store-all-2 c = search needs
+
+store-all-requires : tie.Need-store-all-requires
+store-all-requires c κs = search needs
+
+same-length : tie.Need-same-length
+same-length c = search needs
+
+returns : tie.Need-returns
+unfolding moduleIn
+returns c =
+    let s = c .before .before .before .before .before .before .before .before .before .before .before .before .before .before .before in
+    let fetched = c .before .before .before .before .before .before .before .before .fetch-all .ensures in
+    slot-finished (networkIn (s .args .panel .now) (s .args .program .now)) (moduleIn (s .args .panel .now) (s .args .program .now)) (s .pre .0 .laid) (handIn (s .args .panel .now))
+    (s .args .slot .0) (s .pre .1 .1 .1) _ _ (s .args .memory .now) _ (s .args .processors) (s .pre .1 .1 .0)
+    (fetched .0) (fetched .1) (c .before .before .store-all .ensures)
+
+pub run-slot-spec : {M : Type 1} → statement M
+run-slot-spec =
+    tie.close
+    (tie.spec
+    slice-aggregate-fetch-all
+    slice-aggregate-fetch-all-2
+    fetch-all-requires
+    slice-aggregate-store-all
+    slice-aggregate-store-all-2
+    store-all-requires
+    same-length
+    returns)

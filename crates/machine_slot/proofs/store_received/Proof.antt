@@ -1,0 +1,52 @@
+use lib.ListN.{getD}
+use Rattle.model.specs.Module.{switchPresent, noSender}
+use Prim.Native.Nat.{_+_, _*_}
+use Rattle.buffers_memory.specs.Memory.{place}
+use Rattle.machine_slot.proofs.Stores.{store-some, store-none}
+use native.Mathlib.Omega.{arith}
+use borrow.Author.Needs.{needs}
+use Rattle.machine_slot.proofs.store_received.Statement.{statement}
+use Rattle.machine_slot.proofs.store_received.Tie as tie
+
+shared-slice-read-memory : tie.Need-shared-slice-read-memory
+shared-slice-read-memory c = omega (arith, c .before .before .pre .1 (c .before .if1 .taken))
+
+mul-memory : tie.Need-mul-memory
+mul-memory c = search needs
+
+add-memory : tie.Need-add-memory
+add-memory c = search needs
+
+cast-memory : tie.Need-cast-memory
+cast-memory c = search needs
+
+add-memory-2 : tie.Need-add-memory-2
+add-memory-2 c = search needs
+
+slice-write-memory : tie.Need-slice-write-memory
+slice-write-memory c = search needs
+
+same-length : tie.Need-same-length
+same-length c = search needs
+
+returns : tie.Need-returns
+returns c =
+    let s = c .before .before in
+    store-some _ noSender (s .args .memory .now) (1280 * s .args .processor + 768 + s .args .slot .0) (place (s .args .processor) switchPresent (s .args .slot .0)) (getD (s .args .sent .now) (s .args .sender) 0) (c .before .if1 .taken) (omega arith)
+
+returns-2 : tie.Need-returns-2
+returns-2 c = store-none _ noSender _ _ _ (c .if1 .left)
+
+pub store-received-spec : {M : Type 1} → statement M
+store-received-spec =
+    tie.close
+    (tie.spec
+    shared-slice-read-memory
+    mul-memory
+    add-memory
+    cast-memory
+    add-memory-2
+    slice-write-memory
+    same-length
+    returns
+    returns-2)

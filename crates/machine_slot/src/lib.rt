@@ -1,0 +1,163 @@
+// One slot of the lockstep machine: "every processor fetches first, then stores" (01, One cycle of the machine).
+
+use buffers_tables::Slot;
+use instruction::Instruction;
+ghost use mathlib.Core.Path.{_≡_};
+ghost use Prim.Native.Nat.{_<_, _≤_};
+ghost use mathlib.Core.Bool.{not};
+ghost use lib.Dec.{eqb};
+ghost use lib.ListN.{length, getD};
+ghost use Rattle.model.specs.Module.{localPresent, switchPresent, noSender};
+ghost use Rattle.model.specs.Machine.{sent as sentBy, slot as slotDone};
+ghost use Rattle.buffers_memory.specs.Memory.{memoryLength, memoryOf, place, withMemory, written, here, MemoryBytes};
+ghost use Rattle.buffers_tables.specs.Panel.{panelLength, processorsIn, slotsIn, handIn};
+ghost use Rattle.buffers_tables.specs.Tables.{networkIn, moduleIn, Tables};
+ghost use Rattle.machine_slot.specs.Storing.{gateOn, evaluatedOn, evaluated, FirstAre, storing, storedIf, passed};
+
+// The result of a line's gate: its operands are fetched, and the codes of its signal applied.
+fn gate_on(panel: &[u8], memory: &[u8], processor: usize, line: Instruction) -> u8
+    requires { ⌜ (length (now panel) ≡ panelLength) × (processor < 16) × (line .signal ≤ 4096) ⌝ }
+    requires { ⌜ MemoryBytes (now memory) ⌝ }
+    ensures { λ r. ⌜ r ≡ gateOn (now (panel .entry)) (memoryOf (now (memory .entry))) processor line ⌝ }
+{
+    let signal = line.signal as usize;
+    let a1 = line.a1;
+    let a2 = line.a2;
+    let a3 = line.a3;
+    let a4 = line.a4;
+    let gate = buffers_tables::gate_in(panel, signal);
+    gate.value(
+        buffers_memory::fetch(memory, processor, a1),
+        buffers_memory::fetch(memory, processor, a2),
+        buffers_memory::fetch(memory, processor, a3),
+        buffers_memory::fetch(memory, processor, a4),
+    )
+}
+
+// "Its gate's result, or its input's value for cycle t", which is the value in hand. An empty slot is not evaluated.
+fn evaluate(panel: &[u8], memory: &[u8], processor: usize, line: Instruction) -> u8
+    requires { ⌜ (length (now panel) ≡ panelLength) × (processor < 16) × (line .signal ≤ 4096) ⌝ }
+    requires { ⌜ MemoryBytes (now memory) ⌝ }
+    ensures { λ r. ⌜ r ≡ evaluatedOn (now (panel .entry)) (memoryOf (now (memory .entry))) processor line ⌝ }
+{
+    let signal = line.signal as usize;
+    if signal == 0 {
+        return 0;
+    }
+    if panel[10 * signal] == 1 {
+        return panel[10 * signal + 7];
+    }
+    gate_on(panel, memory, processor, line)
+}
+
+// "every processor fetches first": what each stores locally and what it sends, from its line decoded once.
+fn fetch_all(
+    panel: &[u8],
+    program: &[u8],
+    memory: &[u8],
+    processors: usize,
+    slot: Slot,
+    results: &mut [u8],
+    sent: &mut [u8],
+)
+    requires { ⌜ Tables (now panel) (now program) ⌝ }
+    requires { ⌜ MemoryBytes (now memory) ⌝ }
+    requires { ⌜ (processors ≡ processorsIn (now panel)) × (slot .0 < slotsIn (now panel)) × (length (now results) ≡ 16) × (length (now sent) ≡ 16) ⌝ }
+    ensures { λ r. ⌜ FirstAre processors (λ p. evaluated (networkIn (now (panel .entry)) (now (program .entry))) (moduleIn (now (panel .entry)) (now (program .entry))) (handIn (now (panel .entry))) (memoryOf (now (memory .entry))) p (slot .0)) (now (results .exit)) ⌝ }
+    ensures { λ r. ⌜ FirstAre processors (λ p. sentBy (moduleIn (now (panel .entry)) (now (program .entry))) (memoryOf (now (memory .entry))) p (slot .0)) (now (sent .exit)) ⌝ }
+{
+    let mut p: usize = 0;
+    while p < processors {
+        let line = buffers_tables::instruction_in(program, p, slot);
+        results[p] = evaluate(panel, memory, p, line);
+        let send = line.send;
+        sent[p] = buffers_memory::fetch(memory, p, send);
+        p += 1;
+    }
+}
+
+// The result "goes to local location i", in the present half. "An empty slot stores no local value".
+fn store_result(signal: u16, processor: usize, slot: Slot, value: u8, memory: &mut [u8])
+    requires { ⌜ (length (now memory) ≡ memoryLength) × (processor < 16) × (slot .0 < 256) ⌝ }
+    ensures { λ r. ⌜ now (memory .exit) ≡ storedIf (not (eqb signal 0)) (now (memory .entry)) (place processor localPresent (slot .0)) value ⌝ }
+{
+    let i = slot.0;
+    if signal != 0 {
+        memory[1280 * processor + 256 + (i as usize)] = value;
+    }
+}
+
+// "the received value goes to switch location i", in the present half; "a slot that receives none stores no switch value".
+fn store_received(sender: u8, processor: usize, slot: Slot, sent: &[u8], memory: &mut [u8])
+    requires { ⌜ (length (now memory) ≡ memoryLength) × (processor < 16) × (slot .0 < 256) ⌝ }
+    requires { ⌜ ((sender ≡ noSender → ⊥) → sender < length (now sent)) ⌝ }
+    ensures { λ r. ⌜ now (memory .exit) ≡ storedIf (not (eqb sender noSender)) (now (memory .entry)) (place processor switchPresent (slot .0)) (getD (now (sent .entry)) sender 0) ⌝ }
+{
+    let i = slot.0;
+    if sender != 99 {
+        memory[1280 * processor + 768 + (i as usize)] = sent[sender as usize];
+    }
+}
+
+// Both stores of a processor, by its line.
+fn store(
+    panel: &[u8],
+    program: &[u8],
+    processor: usize,
+    slot: Slot,
+    results: &[u8],
+    sent: &[u8],
+    memory: &mut [u8],
+)
+    requires { ⌜ Tables (now panel) (now program) ⌝ }
+    requires { ⌜ (length (now memory) ≡ memoryLength) × (length (now results) ≡ 16) × (length (now sent) ≡ 16) ⌝ }
+    requires { ⌜ (processor < processorsIn (now panel)) × (slot .0 < slotsIn (now panel)) ⌝ }
+    ensures { λ r. ⌜ now (memory .exit) ≡ written (here processor (slot .0)) (storing (moduleIn (now (panel .entry)) (now (program .entry))) (slot .0) (now (results .entry)) (now (sent .entry)) (memoryOf (now (memory .entry)))) (now (memory .entry)) ⌝ }
+{
+    let line = buffers_tables::instruction_in(program, processor, slot);
+    store_result(line.signal, processor, slot, results[processor], memory);
+    store_received(line.sender, processor, slot, sent, memory);
+}
+
+// "then stores": every processor.
+fn store_all(
+    panel: &[u8],
+    program: &[u8],
+    processors: usize,
+    slot: Slot,
+    results: &[u8],
+    sent: &[u8],
+    memory: &mut [u8],
+)
+    requires { ⌜ Tables (now panel) (now program) ⌝ }
+    requires { ⌜ (length (now memory) ≡ memoryLength) × (length (now results) ≡ 16) × (length (now sent) ≡ 16) ⌝ }
+    requires { ⌜ (processors ≡ processorsIn (now panel)) × (slot .0 < slotsIn (now panel)) ⌝ }
+    ensures { λ r. ⌜ now (memory .exit) ≡ written (passed processors (slot .0)) (storing (moduleIn (now (panel .entry)) (now (program .entry))) (slot .0) (now (results .entry)) (now (sent .entry)) (memoryOf (now (memory .entry)))) (now (memory .entry)) ⌝ }
+{
+    let mut p: usize = 0;
+    while p < processors {
+        store(panel, program, p, slot, results, sent, memory);
+        p += 1;
+    }
+}
+
+// "In slot i every processor fetches first, then stores."
+pub fn run_slot(panel: &[u8], program: &[u8], processors: usize, slot: Slot, memory: &mut [u8])
+    requires { ⌜ Tables (now panel) (now program) ⌝ }
+    requires { ⌜ MemoryBytes (now memory) ⌝ }
+    requires { ⌜ (processors ≡ processorsIn (now panel)) × (slot .0 < slotsIn (now panel)) ⌝ }
+    ensures { λ r. ⌜ now (memory .exit) ≡ withMemory (processorsIn (now (panel .entry))) (slotsIn (now (panel .entry))) (slotDone (networkIn (now (panel .entry)) (now (program .entry))) (moduleIn (now (panel .entry)) (now (program .entry))) (handIn (now (panel .entry))) (slot .0) (memoryOf (now (memory .entry)))) (now (memory .entry)) ⌝ }
+{
+    let mut results = [0u8; 16];
+    let mut sent = [0u8; 16];
+    fetch_all(
+        panel,
+        program,
+        memory,
+        processors,
+        slot,
+        &mut results,
+        &mut sent,
+    );
+    store_all(panel, program, processors, slot, &results, &sent, memory);
+}

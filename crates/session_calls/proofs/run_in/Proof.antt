@@ -1,0 +1,39 @@
+-- `run_in`: decoded, run and encoded, the panel has the head of the outcome, and the memory its state.
+use mathlib.Core.Path.{_∙_, ap}
+use Rattle.model.specs.Session.{Head, run}
+use Rattle.buffers_memory.specs.Memory.{withMemory}
+use Rattle.buffers_tables.specs.Panel.{processorsIn, slotsIn}
+use Rattle.session_state.specs.Commands.{commanded}
+use Rattle.session_calls.proofs.Replies.{writes}
+use borrow.Author.Needs.{needs}
+use Rattle.session_calls.proofs.run_in.Statement.{statement}
+use Rattle.session_calls.proofs.run_in.Tie as tie
+
+decode-requires : tie.Need-decode-requires
+decode-requires c κs = search needs
+
+run-requires : tie.Need-run-requires
+run-requires c κs = search needs
+
+tell-requires : tie.Need-tell-requires
+tell-requires c κs = search needs
+
+same-length : tie.Need-same-length
+same-length c = search needs
+
+same-length-2 : tie.Need-same-length-2
+same-length-2 c = search needs
+
+returns : tie.Need-returns
+returns c =
+    let s = c .before .before .before .before .before .before .before .before .before .before .before .before .before .before in
+    let panel = s .args .panel .now in
+    let program = s .args .program .now in
+    let memory = s .args .memory .now in
+    let d = c .before .before .before .before .before .before .before .before .before .decode .ensures in
+    (writes panel program memory _ _ (d .0) (d .1) _ (c .before .before .before .before .before .before .run .ensures .0) _ _ (c .before .before .tell .ensures .0) (c .before .before .tell .ensures .1), c .before .before .before .before .before .before .run .ensures .1 ∙ ap (λ (h : Head). withMemory (processorsIn panel) (slotsIn panel) (commanded panel program memory h (run (s .args .cycles)) .state) memory) (d .0))
+
+pub run-in-spec : {M : Type 1} → statement M
+run-in-spec =
+    tie.close
+    (tie.spec decode-requires run-requires tell-requires same-length same-length-2 returns)

@@ -1,0 +1,116 @@
+-- The three ways out: a wrong length, accepted files, a refused file. Each gives the check, and with it the answer and the bytes.
+use mathlib.Core.Path.{sym, _∙_}
+use borrow.Author.Tests.{not-true, not-false}
+use Rattle.model.proofs.Accepted.{net-accepted, mod-accepted, stim-accepted}
+use Rattle.buffers_load.specs.Loaded.{panelOf, programOf, openingBytes}
+use Rattle.buffers_lengths.proofs.Sizes.{same-sizes}
+use Rattle.session_opening.proofs.Outcome.{wrong-length, right-length, files-accepted, files-refused, refused-bits, refused-left, accepted-bits, accepted-left}
+use borrow.Author.Needs.{needs}
+use Rattle.session_opening.proofs.cavundir_open.Statement.{statement}
+use Rattle.session_opening.proofs.cavundir_open.Tie as tie
+
+lengths-right-requires : tie.Need-lengths-right-requires
+lengths-right-requires c κs = search needs
+
+refuse-requires : tie.Need-refuse-requires
+refuse-requires c κs = search needs
+
+same-length : tie.Need-same-length
+same-length c = search needs
+
+same-length-2 : tie.Need-same-length-2
+same-length-2 c = search needs
+
+same-length-3 : tie.Need-same-length-3
+same-length-3 c = search needs
+
+returns : tie.Need-returns
+returns c =
+    let test = c .before .before .before .before .before .before .before .before .before .before in
+    let e = wrong-length _ _ (sym (test .before .lengths-right .ensures) ∙ not-true _ (test .if1 .taken)) in
+    let r = c .before .before .before .before .before .before .refuse .ensures in
+    (r .0 ∙ refused-bits e, (r .1 .0 ∙ refused-left e _ _, (r .1 .1 .0 ∙ refused-left e _ _, r .1 .1 .1 ∙ refused-left e _ _)))
+
+check-files-requires : tie.Need-check-files-requires
+check-files-requires c κs = search needs
+
+enum-known-number : tie.Need-enum-known-number
+enum-known-number c = search needs
+
+enum-told : tie.Need-enum-told
+enum-told c = search needs
+
+load-requires : tie.Need-load-requires
+load-requires c κs =
+    let told = c .before .before .before in
+    let test = told .before .before .before in
+    let e = files-accepted _ _ (told .before .before .check-files .ensures) (told .enum-told .given .1) in
+    let l = same-sizes _ _ _ (sym (test .before .lengths-right .ensures) ∙ not-false _ (test .if1 .left)) in
+    (net-accepted 4096 _ e, (mod-accepted 4096 _ e, (stim-accepted 4096 _ e, (l .panel-size, l .program-size, l .memory-size))))
+
+same-length-4 : tie.Need-same-length-4
+same-length-4 c = search needs
+
+same-length-5 : tie.Need-same-length-5
+same-length-5 c = search needs
+
+same-length-6 : tie.Need-same-length-6
+same-length-6 c = search needs
+
+returns-2 : tie.Need-returns-2
+returns-2 c =
+    let told = c .before .before .before .before .before .before .before .before .before .before in
+    let test = told .before .before .before in
+    let s = test .before .before .before .before .before .before .before .before .before .before .before in
+    let net = s .args .net .now in
+    let modfile = s .args .modfile .now in
+    let stim = s .args .stim .now in
+    let e = right-length _ _ (sym (test .before .lengths-right .ensures) ∙ not-false _ (test .if1 .left))
+    ∙ files-accepted _ _ (told .before .before .check-files .ensures) (told .enum-told .given .1) in
+    let r = c .before .before .before .before .before .before .load .ensures in
+    (accepted-bits e, (accepted-left e _ (panelOf net modfile stim) _ (r .0), (accepted-left e _ (programOf modfile) _ (r .1 .0), accepted-left e _ (openingBytes net modfile stim) _ (r .1 .1))))
+
+refuse-requires-2 : tie.Need-refuse-requires-2
+refuse-requires-2 c κs = search needs
+
+same-length-7 : tie.Need-same-length-7
+same-length-7 c = search needs
+
+same-length-8 : tie.Need-same-length-8
+same-length-8 c = search needs
+
+same-length-9 : tie.Need-same-length-9
+same-length-9 c = search needs
+
+returns-3 : tie.Need-returns-3
+returns-3 c =
+    let told = c .before .before .before .before .before .before .before .before .before .before .before in
+    let test = told .before .before .before in
+    let e = right-length _ _ (sym (test .before .lengths-right .ensures) ∙ not-false _ (test .if1 .left))
+    ∙ files-refused _ _ (told .before .before .check-files .ensures) (told .number .given .1) in
+    let r = c .before .before .before .before .before .before .refuse2 .ensures in
+    (r .0 ∙ refused-bits e, (r .1 .0 ∙ refused-left e _ _, (r .1 .1 .0 ∙ refused-left e _ _, r .1 .1 .1 ∙ refused-left e _ _)))
+
+pub cavundir-open-spec : {M : Type 1} → statement M
+cavundir-open-spec =
+    tie.close
+    (tie.spec
+    lengths-right-requires
+    refuse-requires
+    same-length
+    same-length-2
+    same-length-3
+    returns
+    check-files-requires
+    enum-known-number
+    enum-told
+    load-requires
+    same-length-4
+    same-length-5
+    same-length-6
+    returns-2
+    refuse-requires-2
+    same-length-7
+    same-length-8
+    same-length-9
+    returns-3)

@@ -1,0 +1,34 @@
+-- The opening (01, Session: "It opens when the three files are accepted"): its answer, and every byte that it leaves.
+use Prim.Native.Nat.{ℕ}
+use mathlib.Core.List.{List}
+use lib.ListN.{length}
+use Rattle.logic.specs.Listed.{listed}
+use Rattle.model.specs.Refusal.{Check, pass, fail, first, unless}
+use Rattle.model.specs.Files.{Files}
+use Rattle.model.specs.Acceptance.{panelLimit, fileCheck}
+use Rattle.model.specs.Session.{Lengths, sameLengths, refused, done}
+use Rattle.buffers_lengths.specs.Lengths.{fixed, lengthsLent}
+use Rattle.session_answers.specs.Answers.{answerBits}
+
+-- "At the opening 40 comes before all file refusals." The lengths are those of panel, program and memory as lent.
+unfoldable pub openingCheck : Files → Lengths → Check
+openingCheck files lent = first (unless (sameLengths lent fixed) 40 0) (fileCheck panelLimit files)
+
+-- the same by the bytes lent
+abbrev pub openingCheckLent : (net modfile stim panel program memory : List ℕ) → Check
+openingCheckLent net modfile stim panel program memory =
+    openingCheck (record { NET = net; MOD = modfile; STIM = stim }) (lengthsLent panel program memory)
+
+-- "A refused opening leaves the working buffers all zero, as far as they were lent to it": so many zeros
+abbrev pub cleared : ℕ → List ℕ
+cleared size = listed size (λ a. 0)
+
+-- what a buffer holds after the opening: bytes of the files alone, or zeros
+unfoldable pub leftBy : Check → List ℕ → List ℕ → List ℕ
+leftBy pass bytes lent = bytes
+leftBy (fail number returned) bytes lent = cleared (length lent)
+
+-- the 64 bits that C gets: those of a call that is done, or refused
+unfoldable pub openBits : Check → ℕ
+openBits pass = answerBits done
+openBits (fail number returned) = answerBits (refused number returned)

@@ -1,0 +1,56 @@
+// The opening of a session, as C calls it (01, Session).
+
+ghost use mathlib.Core.Path.{_≡_};
+ghost use lib.ListN.{length};
+ghost use Rattle.model.specs.Session.{refused};
+ghost use Rattle.buffers_load.specs.Loaded.{panelOf, programOf, openingBytes};
+ghost use Rattle.session_answers.specs.Answers.{answerBits};
+ghost use Rattle.session_opening.specs.Opened.{openingCheckLent, cleared, leftBy, openBits};
+use file_checks::FileAnswer;
+
+// The working buffers all zero.
+fn clear_all(panel: &mut [u8], program: &mut [u8], memory: &mut [u8])
+    ensures { λ _. ⌜ now (panel .exit) ≡ cleared (length (now (panel .entry))) ⌝ }
+    ensures { λ _. ⌜ now (program .exit) ≡ cleared (length (now (program .entry))) ⌝ }
+    ensures { λ _. ⌜ now (memory .exit) ≡ cleared (length (now (memory .entry))) ⌝ }
+{
+    buffers_load::fill(panel, 0);
+    buffers_load::fill(program, 0);
+    buffers_load::fill(memory, 0);
+}
+
+// "A refused opening leaves the working buffers all zero, as far as they were lent to it."
+fn refuse(number: u8, returned: u16, panel: &mut [u8], program: &mut [u8], memory: &mut [u8]) -> u64
+    ensures { λ r. ⌜ r ≡ answerBits (refused number returned) ⌝ }
+    ensures { λ _. ⌜ now (panel .exit) ≡ cleared (length (now (panel .entry))) ⌝ }
+    ensures { λ _. ⌜ now (program .exit) ≡ cleared (length (now (program .entry))) ⌝ }
+    ensures { λ _. ⌜ now (memory .exit) ≡ cleared (length (now (memory .entry))) ⌝ }
+{
+    clear_all(panel, program, memory);
+    session_answers::refusal_bits(number, returned as u32)
+}
+
+// Opens a session on three files: 40 comes before all file refusals, and accepted files write every byte of the buffers.
+#[no_mangle]
+pub extern "C" fn cavundir_open(
+    net: &[u8],
+    modfile: &[u8],
+    stim: &[u8],
+    panel: &mut [u8],
+    program: &mut [u8],
+    memory: &mut [u8],
+) -> u64
+    ensures { λ r. ⌜ r ≡ openBits (openingCheckLent (now (net .entry)) (now (modfile .entry)) (now (stim .entry)) (now (panel .entry)) (now (program .entry)) (now (memory .entry))) ⌝ }
+    ensures { λ _. ⌜ now (panel .exit) ≡ leftBy (openingCheckLent (now (net .entry)) (now (modfile .entry)) (now (stim .entry)) (now (panel .entry)) (now (program .entry)) (now (memory .entry))) (panelOf (now (net .entry)) (now (modfile .entry)) (now (stim .entry))) (now (panel .entry)) ⌝ }
+    ensures { λ _. ⌜ now (program .exit) ≡ leftBy (openingCheckLent (now (net .entry)) (now (modfile .entry)) (now (stim .entry)) (now (panel .entry)) (now (program .entry)) (now (memory .entry))) (programOf (now (modfile .entry))) (now (program .entry)) ⌝ }
+    ensures { λ _. ⌜ now (memory .exit) ≡ leftBy (openingCheckLent (now (net .entry)) (now (modfile .entry)) (now (stim .entry)) (now (panel .entry)) (now (program .entry)) (now (memory .entry))) (openingBytes (now (net .entry)) (now (modfile .entry)) (now (stim .entry))) (now (memory .entry)) ⌝ }
+{
+    if !buffers_lengths::lengths_right(panel, program, memory) {
+        return refuse(40, 0, panel, program, memory);
+    }
+    let FileAnswer::Refused(number, returned) = file_checks::check_files(net, modfile, stim) else {
+        buffers_load::load(net, modfile, stim, panel, program, memory);
+        return 0;
+    };
+    refuse(number, returned, panel, program, memory)
+}

@@ -1,0 +1,68 @@
+use Prim.Native.Nat.{ℕ, _+_, _≤_, _<_}
+use mathlib.Core.Path.{refl, sym, _∙_, ap}
+use Rattle.model.specs.Machine.{Memory}
+use Rattle.model.specs.Session.{Outcome, ran}
+use Rattle.buffers_memory.specs.Memory.{memoryOf, withMemory}
+use Rattle.buffers_tables.specs.Panel.{processorsIn, slotsIn}
+use Rattle.machine_run.specs.Running.{runIn}
+use Rattle.session_state.specs.Header.{headOf}
+use Rattle.session_state.proofs.Commands.{tells}
+use Rattle.session_state.proofs.Running.{run-refused, memory-kept, run-done, run-most}
+use native.Mathlib.Omega.{arith}
+use borrow.Author.Needs.{needs}
+use Rattle.session_state.proofs.Session.run.Statement.{statement}
+use Rattle.session_state.proofs.Session.run.Tie as tie
+
+cast-if1 : tie.Need-cast-if1
+cast-if1 c = search needs
+
+sub-if1 : tie.Need-sub-if1
+sub-if1 c = search needs
+
+returns : tie.Need-returns
+returns c =
+    let s = c .before .before .before .before in
+    let h = headOf (s .args .self) in
+    let panel = s .args .panel .now in
+    let program = s .args .program .now in
+    let memory = s .args .memory .now in
+    let k = s .args .cycles in
+    let l : 65535 < h .finished + k = omega (arith, c .if1 .taken) in
+    (tells _ _ _ (run-refused panel program memory h k l) refl refl, memory-kept panel program memory h k (s .pre .1 .1 .0 .size) l)
+
+cast-t18 : tie.Need-cast-t18
+cast-t18 c = search needs
+
+run-requires : tie.Need-run-requires
+run-requires c κs = search needs
+
+add-t18 : tie.Need-add-t18
+add-t18 c =
+    let s = c .before .before .before .before .before .before .before .before .before .before in
+    let done = c .before .before .before .before .run .ensures .0 in
+    let most = run-most (s .args .panel .now) (s .args .program .now) (memoryOf (s .args .memory .now)) (s .args .cycles) in
+    omega (arith, done, most, c .before .before .before .before .before .before .if1 .left)
+
+same-length : tie.Need-same-length
+same-length c = search needs
+
+returns-2 : tie.Need-returns-2
+returns-2 c =
+    let s = c .before .before .before .before .before .before .before .before .before .before in
+    let h = headOf (s .args .self) in
+    let panel = s .args .panel .now in
+    let program = s .args .program .now in
+    let memory = s .args .memory .now in
+    let k = s .args .cycles in
+    let l : h .finished + k ≤ 65535 = omega (arith, c .before .before .before .before .before .before .if1 .left) in
+    let e = run-done panel program memory h k (s .pre .1 .1 .1) l in
+    let did = c .before .before .before .before .run .ensures in (
+      tells _ _ _ e (ap (λ (x : ℕ). ran x (c .before .before .before .before .run .result .stopped)) (did .0) ∙ ap (ran (runIn panel program k (memoryOf memory) .count)) (did .1))
+          (ap (λ (x : ℕ). record { finished = h .finished + x; hand = h .hand; watch = h .watch }) (did .0)),
+      did .2 ∙ ap (λ (o : Outcome Memory). withMemory (processorsIn panel) (slotsIn panel) (o .state) memory) (sym e),
+    )
+
+pub run-spec : {M : Type 1} → statement M
+run-spec =
+    tie.close
+    (tie.spec cast-if1 sub-if1 returns cast-t18 run-requires add-t18 same-length returns-2)

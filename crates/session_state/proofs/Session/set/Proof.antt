@@ -1,0 +1,48 @@
+-- `set`: 41, 42 and the setting, each as the model has it.
+use mathlib.Core.Path.{refl}
+use Rattle.session_state.specs.Header.{headOf}
+use Rattle.session_state.proofs.Commands.{signal-high, fails, passes, input-signal, set-no-signal, set-no-value, set-done, tells}
+use native.Mathlib.Omega.{arith}
+use borrow.Author.Needs.{needs}
+use Rattle.session_state.proofs.Session.set.Statement.{statement}
+use Rattle.session_state.proofs.Session.set.Tie as tie
+
+is-input-requires : tie.Need-is-input-requires
+is-input-requires c κs = search needs
+
+returns : tie.Need-returns
+returns c =
+    let s = c .before .before .before in
+    λ program memory.
+    tells _ _ _
+    (set-no-signal (s .args .panel .now) program memory (headOf (s .args .self)) (s .args .input) (s .args .value) (fails _ _ (c .before .is-input .ensures) (c .if1 .taken)))
+    refl refl
+
+returns-2 : tie.Need-returns-2
+returns-2 c =
+    let s = c .before .before .before .before in
+    λ program memory.
+    tells _ _ _
+    (set-no-value (s .args .panel .now) program memory (headOf (s .args .self)) (s .args .input) (s .args .value) (passes _ _ (c .before .before .is-input .ensures) (c .before .if1 .left)) (c .if2 .taken))
+    refl refl
+
+cast-with-value : tie.Need-cast-with-value
+cast-with-value c = search needs
+
+with-value-requires : tie.Need-with-value-requires
+with-value-requires c κs =
+    let s = c .before .before .before .before in
+    omega (arith, s .pre .1, signal-high (s .args .panel .now) (s .args .input) (input-signal (s .args .panel .now) (s .args .input) (passes _ _ (c .before .before .is-input .ensures) (c .before .if1 .left))))
+
+returns-3 : tie.Need-returns-3
+returns-3 c =
+    let s = c .before .before .before .before .before in
+    λ program memory.
+    tells _ _ _
+    (set-done (s .args .panel .now) program memory (headOf (s .args .self)) (s .args .input) (s .args .value) (passes _ _ (c .before .before .before .is-input .ensures) (c .before .before .if1 .left)) (c .before .if2 .left))
+    refl (c .with-value .ensures)
+
+pub set-spec : {M : Type 1} → statement M
+set-spec =
+    tie.close
+    (tie.spec is-input-requires returns returns-2 cast-with-value with-value-requires returns-3)

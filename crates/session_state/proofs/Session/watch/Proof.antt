@@ -1,0 +1,48 @@
+-- `watch`: 41, 42 and the watch, each as the model has it.
+use mathlib.Core.Path.{refl}
+use Rattle.session_state.specs.Header.{headOf}
+use Rattle.session_state.proofs.Commands.{signal-high, fails, passes, watch-no-signal, watch-no-mask, watch-done, tells}
+use native.Mathlib.Omega.{arith}
+use borrow.Author.Needs.{needs}
+use Rattle.session_state.proofs.Session.watch.Statement.{statement}
+use Rattle.session_state.proofs.Session.watch.Tie as tie
+
+is-signal-requires : tie.Need-is-signal-requires
+is-signal-requires c κs = search needs
+
+returns : tie.Need-returns
+returns c =
+    let s = c .before .before .before in
+    λ program memory.
+    tells _ _ _
+    (watch-no-signal (s .args .panel .now) program memory (headOf (s .args .self)) (s .args .signal) (s .args .mask) (fails _ _ (c .before .is-signal .ensures) (c .if1 .taken)))
+    refl refl
+
+returns-2 : tie.Need-returns-2
+returns-2 c =
+    let s = c .before .before .before .before in
+    λ program memory.
+    tells _ _ _
+    (watch-no-mask (s .args .panel .now) program memory (headOf (s .args .self)) (s .args .signal) (s .args .mask) (passes _ _ (c .before .before .is-signal .ensures) (c .before .if1 .left)) (c .if2 .taken))
+    refl refl
+
+cast-watched : tie.Need-cast-watched
+cast-watched c =
+    let s = c .before .before .before .before .before .before in
+    let l = signal-high (s .args .panel .now) (s .args .signal) (passes _ _ (c .before .before .before .before .is-signal .ensures) (c .before .before .before .if1 .left)) in
+    let n = s .pre .1 in
+    omega arith
+
+cast-t12 : tie.Need-cast-t12
+cast-t12 c = search needs
+
+returns-3 : tie.Need-returns-3
+returns-3 c =
+    let s = c .before .before .before .before .before .before in
+    λ program memory.
+    tells _ _ _
+    (watch-done (s .args .panel .now) program memory (headOf (s .args .self)) (s .args .signal) (s .args .mask) (passes _ _ (c .before .before .before .before .is-signal .ensures) (c .before .before .before .if1 .left)) (c .before .before .if2 .left))
+    refl refl
+
+pub watch-spec : {M : Type 1} → statement M
+watch-spec = tie.close (tie.spec is-signal-requires returns returns-2 cast-watched cast-t12 returns-3)
