@@ -29,7 +29,7 @@ static void put_word(uint8_t *at, unsigned n)
     at[1] = n / 256;
 }
 
-/* A location of one of so many parts, or none, each as often as another. */
+/* A location of one of the first parts, or none, each as often as another. */
 static void put_pair(uint8_t *pair, unsigned parts, unsigned slots)
 {
     unsigned part = random_below(parts + 1);

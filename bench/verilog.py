@@ -90,7 +90,7 @@ def time_of(command, folder):
 
 
 def listed(program, folder, stim, cycles):
-    """The listing program's time for so many cycles, and the values at their end."""
+    """The listing program's time for a number of cycles, and the values at their end."""
     settings = [row for row in stim if row[0] <= cycles and row[1]]
     (folder / "STIM").write_bytes(text(settings + [[cycles, 0, 0]]))
     seconds, printed = time_of([program], folder)

@@ -93,7 +93,7 @@ uint64_t cavundir_read(const uint8_t *panel, size_t panel_bytes,
                        const uint8_t *memory, size_t memory_bytes,
                        uint32_t signal);
 
-/* Runs so many cycles, or fewer where the watch stops it. A session has at most 65535 cycles. */
+/* Runs the given number of cycles, or fewer where the watch stops it. A session has at most 65535 cycles. */
 uint64_t cavundir_run(uint8_t *panel, size_t panel_bytes,
                       const uint8_t *program, size_t program_bytes,
                       uint8_t *memory, size_t memory_bytes,

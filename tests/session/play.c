@@ -37,7 +37,7 @@ static void fail(const struct call *call, const char *words, const char *of)
     exit(1);
 }
 
-/* A block of exactly so many bytes, so that a tool that watches memory sees every step beyond it. */
+/* A block of exactly that length, so that a tool that watches memory sees every step beyond it. */
 static struct bytes block(size_t length)
 {
     struct bytes made = {malloc(length ? length : 1), length};

@@ -10,7 +10,7 @@ use Rattle.model.specs.Session.{sameLengths}
 use Rattle.buffers_memory.specs.Memory.{memoryLength}
 use Rattle.buffers_tables.specs.Panel.{panelLength}
 use Rattle.buffers_tables.specs.Program.{programLength}
-use Rattle.buffers_lengths.specs.Lengths.{fixed}
+use Rattle.buffers_lengths.specs.Lengths.{fixed, Sizes}
 
 module _ (a b c : ℕ) where
   abbrev same : Bool
@@ -28,18 +28,11 @@ module _ (a b c : ℕ) where
   unfolding sameLengths _and_
   by-memory e f = rw (eq-eqb a panelLength e, eq-eqb b programLength f)
 
--- the fixed lengths, one by one
-pub record Sizes (a b c : ℕ) : Type 0 where
-  pub panel-size : a ≡ panelLength
-  pub program-size : b ≡ programLength
-  pub memory-size : c ≡ memoryLength
-
-module _ (a b c : ℕ) where
-  pub sizes-same : Sizes a b c → same a b c ≡ true
+  pub sizes-same : Sizes a b c → same ≡ true
   unfolding sameLengths _and_
   sizes-same h = rw (eq-eqb _ _ (h .panel-size), eq-eqb _ _ (h .program-size), eq-eqb _ _ (h .memory-size))
 
-  pub same-sizes : same a b c ≡ true → Sizes a b c
+  pub same-sizes : same ≡ true → Sizes a b c
   unfolding sameLengths
   same-sizes e =
       record {

@@ -1,5 +1,6 @@
 -- 40 (01, Refusals): "a lent buffer's length differs from the fixed one that docs/ gives it"
 use Prim.Native.Nat.{ℕ}
+use mathlib.Core.Path.{_≡_}
 use mathlib.Core.List.{List}
 use lib.ListN.{length}
 use Rattle.model.specs.Session.{Lengths}
@@ -13,3 +14,9 @@ fixed = record { panel = panelLength; program = programLength; memory = memoryLe
 
 abbrev pub lengthsLent : List ℕ → List ℕ → List ℕ → Lengths
 lengthsLent panel program memory = record { panel = length panel; program = length program; memory = length memory }
+
+-- the fixed lengths, one by one
+pub record Sizes (a b c : ℕ) : Type 0 where
+  pub panel-size : a ≡ panelLength
+  pub program-size : b ≡ programLength
+  pub memory-size : c ≡ memoryLength

@@ -46,7 +46,7 @@ module _ (net stim : List ℕ) where
   unfolding timeZero isSignal _and_ network
   zeroth-is s l h = rw (le-leb 1 s l, le-leb s (netSize net) h)
 
--- an array of so many numbers
+-- an array of a given length
 array-at : (f : ℕ → ℕ) (l : List ℕ) → l ≡ listed 4097 f → (s : ℕ) → s < 4097 → getD l s 0 ≡ f s
 array-at f l e s h = ap (λ (x : List ℕ). getD x s 0) e ∙ listed-at 4097 f s h
 

@@ -12,7 +12,7 @@ pub record ModuleChecked (modfile : List ℕ) : Type 0 where
   pub few : network .size ≤ 4096
   pub passes : modCheck network modfile ≡ pass
 
--- lines of at most 16 processors of so many slots each
+-- lines of at most 16 processors, each with that number of slots
 pub record LineNumbers (slots : ℕ) (places : List ℕ) : Type 0 where
   pub size : length places ≡ 4097
   pub few : (s : ℕ) → s ≤ 4096 → getD places s 0 < 16 * slots

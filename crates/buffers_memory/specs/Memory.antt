@@ -56,7 +56,7 @@ writtenAt test w old p part k = if test p k and ltb part blank then fetch w p pa
 unfoldable pub written : (ℕ → ℕ → Bool) → Memory → List ℕ → List ℕ
 written test w old = listed memoryLength (λ a. writtenAt test w old (a / 1280) (a % 1280 / 256) (a % 256))
 
--- p is one of so many processors, and k one of so many locations
+-- p is one of the module's processors, and k one of its locations
 unfoldable pub within : ℕ → ℕ → ℕ → ℕ → Bool
 within processors slots p k = ltb p processors and ltb k slots
 
@@ -67,6 +67,6 @@ here p k q x = eqb q p and eqb x k
 unfoldable pub below : ℕ → ℕ → ℕ → ℕ → Bool
 below p k q x = eqb q p and ltb x k
 
--- the bytes old with the memory w in the locations of a module of so many processors and slots; all other bytes stay
+-- the bytes old with the memory w in the locations of a module of that many processors and slots; all other bytes stay
 abbrev pub withMemory : ℕ → ℕ → Memory → List ℕ → List ℕ
 withMemory processors slots w old = written (within processors slots) w old

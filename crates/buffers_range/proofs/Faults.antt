@@ -1,4 +1,4 @@
--- Counted faults: there is none of a pair just where it is in range, and none of several just where there is none of each.
+-- Counted faults: there is none of a pair exactly when it is in range, and none of several exactly when there is none of each.
 use Prim.Native.Nat.{ℕ, _+_, _-_, _*_, _<_, _≤_}
 use mathlib.Core.Path.{_≡_, refl, sym, _∙_}
 use mathlib.Core.Bool.{Bool, true, false, true≢false}

@@ -1,4 +1,4 @@
--- What the largest byte of a run tells: a test that passes of every number below one that passes, passes of the whole run just where it
+-- What the largest byte of a run tells: a test that passes of every number below one that passes, passes of the whole run exactly when it
 -- passes of the largest.
 use Prim.Native.Nat.{ℕ, zero, suc, _+_, _-_, _<_, _≤_}
 use mathlib.Core.Path.{_≡_, refl, sym, subst, _∙_, ap}

@@ -8,7 +8,7 @@ use Rattle.logic.specs.Choice.{if_then_else_}
 unfoldable pub larger : ℕ → ℕ → ℕ
 larger a b = if ltb a b then b else a
 
--- of so many bytes from a place on, 0 of none
+-- of `count` bytes starting at `at`, 0 of none
 unfoldable pub largestOf : List ℕ → ℕ → ℕ → ℕ
 largestOf bytes at zero = 0
 largestOf bytes at (suc n) = larger (largestOf bytes at n) (getD bytes (at + n) 0)

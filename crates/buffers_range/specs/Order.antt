@@ -53,7 +53,7 @@ slotsAt program signals processors slots =
 unfoldable pub valuesIn : ℕ → ℕ → ℕ → ℕ
 valuesIn processors slots j = if ltb (j / 5) processors and ltb (j % 5) blank then slots else 0
 
--- the 256 bytes of a part: so many values, and zeros
+-- the 256 bytes of a part: values in the module's slots, and zeros
 unfoldable pub partAt : List ℕ → ℕ → ℕ → Bool
 partAt memory at values =
     all values (λ k. leb (getD memory (at + k) 0) 3)

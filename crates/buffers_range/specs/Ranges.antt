@@ -15,7 +15,7 @@ use Rattle.buffers_memory.specs.Memory.{memoryLength, blank, within}
 use Rattle.buffers_tables.specs.Panel.{signalsIn, processorsIn, slotsIn, watchedIn, maskIn, kindIn, handIn, processorIn, slotIn}
 use Rattle.buffers_tables.specs.Tables.{networkIn, moduleIn}
 
--- so many bytes from a place on are 0
+-- `count` bytes starting at `at` are 0
 unfoldable pub zeros : List ℕ → ℕ → ℕ → Bool
 zeros bytes at count = all count (λ k. eqb (getD bytes (at + k) 0) 0)
 

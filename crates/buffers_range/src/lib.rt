@@ -21,7 +21,7 @@ fn larger_of(a: u8, b: u8) -> u8
     if a < b { b } else { a }
 }
 
-// The largest of so many bytes from a place on.
+// The largest of `count` bytes starting at `at`.
 fn largest(bytes: &[u8], at: usize, count: usize) -> u8
     requires { ⌜ at + count ≤ length (now bytes) ⌝ }
     ensures { λ r. ⌜ r ≡ largestOf (now (bytes .entry)) at count ⌝ }
@@ -262,7 +262,7 @@ fn values_in(index: usize, processors: u8, slots: u16) -> usize
     slots as usize
 }
 
-// The 256 bytes of a part: so many values, and zeros.
+// The 256 bytes of a part: values in the module's slots, and zeros.
 fn part_right(memory: &[u8], at: usize, values: usize) -> bool
     requires { ⌜ (at + 256 ≤ length (now memory)) × (values ≤ 256) ⌝ }
     ensures { λ r. ⌜ r ≡ partAt (now (memory .entry)) at values ⌝ }

@@ -11,8 +11,8 @@ use Rattle.model.specs.Acceptance.{panelLimit, fileCheck}
 use Rattle.model.specs.Listing.{joined, printedFor, printed}
 use Rattle.model.specs.Demands.{Demand2}
 use Rattle.model.proofs.Demands.{printed-demand-2}
-use Rattle.listing.specs.Printing.{firstBytes}
-use Rattle.listing.proofs.Printed.{pieces-joined, read-printed}
+use Rattle.laws_listing.specs.Reading.{firstBytes}
+use Rattle.laws_listing.proofs.Printed.{pieces-joined, read-printed}
 use Rattle.cavundir.specs.Handing.{partFor, partAt, countFor, partCount, Handing, Output}
 
 -- all parts in order are what is printed

@@ -14,11 +14,11 @@ use Rattle.file_checks.specs.Answer.{fileRefusal}
 use Rattle.listing.specs.declared.Lister.{Lister}
 use Rattle.listing.specs.declared.Piece.{Piece}
 use Rattle.listing.specs.Changes.{pieceLength}
-use Rattle.listing.specs.Refused.{refusedText}
+use Rattle.file_checks.specs.Refused.{refusedText}
 use Rattle.listing.specs.Pieces.{pieceCount, pieceAt}
 use Rattle.listing.specs.Standing.{Stands, Standing, Gives}
-use Rattle.listing.proofs.Changes.{refused-short}
-use Rattle.listing.proofs.Printed.{pieces-few}
+use Rattle.file_checks.proofs.Refused.{refused-short}
+use Rattle.laws_listing.proofs.Printed.{pieces-few}
 use Rattle.cavundir.specs.Handing.{partFor, partAt, countFor, partCount, partsAfter, Handing}
 
 -- the first bytes of a buffer that a text was written into

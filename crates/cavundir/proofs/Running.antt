@@ -18,7 +18,7 @@ use Rattle.model.specs.Acceptance.{panelLimit, networkOf, fileCheck}
 use Rattle.model.specs.Listing.{joined, printed}
 use Rattle.model.proofs.Refusals.{first-stays, first-second}
 use Rattle.model.proofs.Demands.{joined-same}
-use Rattle.listing.specs.Printing.{firstBytes}
+use Rattle.laws_listing.specs.Reading.{firstBytes}
 use Rattle.cavundir.specs.Handing.{filesOf, partFor, partAt, countFor, partCount, Handing, ReadFrom}
 use Rattle.cavundir.proofs.Handed.{handed-printed, handed-begins}
 use Rattle.cavundir.proofs.run.Kinds.{ps as run-ps, r as run-r}

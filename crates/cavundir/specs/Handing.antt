@@ -11,7 +11,7 @@ use Rattle.model.specs.ModuleFile.{modCheck}
 use Rattle.model.specs.Acceptance.{panelLimit, networkOf, fileCheck}
 use Rattle.model.specs.Listing.{joined, refusalLine}
 use Rattle.listing.specs.Pieces.{pieceCount, pieceAt}
-use Rattle.listing.specs.Printing.{firstBytes}
+use Rattle.laws_listing.specs.Reading.{firstBytes}
 
 -- the three files, by their bytes
 abbrev pub filesOf : List ℕ → List ℕ → List ℕ → Files
@@ -36,7 +36,7 @@ abbrev pub partsAfter : ℕ → Bool → ℕ
 partsAfter parts false = parts + 1
 partsAfter parts true = parts
 
--- Parts were handed over from the first on, and so many of them were written: all, unless the writing of the next one failed
+-- Parts were handed over from the first on, and `parts` counts those that were written: all, unless the writing of the next one failed
 pub record Handing (files : Files) (parts : ℕ) (failed : Bool) : Type 0 where
   pub few : parts ≤ partCount files
   pub whole : failed ≡ false → parts ≡ partCount files

@@ -1,2 +1,1 @@
-pub mod Got
 pub mod Handing

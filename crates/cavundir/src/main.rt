@@ -3,13 +3,12 @@
 
 ghost use mathlib.Core.Path.{_≡_};
 ghost use mathlib.Core.Bool.{false};
-ghost use Prim.Native.Nat.{_≤_, _<_};
-ghost use lib.ListN.{length, take};
+ghost use Prim.Native.Nat.{_<_};
+ghost use lib.ListN.{take};
 ghost use Rattle.model.specs.Refusal.{pass};
 ghost use Rattle.model.specs.Acceptance.{panelLimit, fileCheck, Accepted};
 ghost use Rattle.model.specs.Stimulus.{stimCount};
 ghost use Rattle.file_checks.specs.Answer.{fileRefusal};
-ghost use Rattle.cavundir.specs.Got.{Brought};
 ghost use Rattle.cavundir.specs.Handing.{filesOf, partAt, partCount, partsAfter, Handing};
 use file_checks::FileAnswer;
 use file_mod_lines::ModAnswer;
@@ -46,63 +45,6 @@ fn piece_buffer() -> [u8; 77824] {
     [0; 77824]
 }
 
-// What one read brought: so many bytes, none at the end of the file; or it failed.
-enum Got {
-    Bytes(usize),
-    Failed,
-}
-
-// One read at a place of the file, which a pipe or a terminal does not have: it fails there, and does not wait.
-fn read_at(fd: i32, part: &mut [u8], at: i64) -> Got
-    ensures { λ r. ⌜ Brought r (now (part .exit)) ⌝ }
-{
-    let got = libc::pread(fd, part, at);
-    if got < 0 {
-        return Got::Failed;
-    }
-    Got::Bytes(io::count(got, part))
-}
-
-// The bytes of an open file, as far as the buffer holds them: how many. A read that fails is not the end of the file: the file then
-// counts as absent.
-fn read_whole(fd: i32, bytes: &mut [u8]) -> usize
-    ensures { λ r. ⌜ r ≤ length (now (bytes .exit)) ⌝ }
-{
-    let mut done: usize = 0;
-    while done < bytes.len() {
-        let Got::Bytes(more) = read_at(fd, &mut bytes[done..], done as i64) else {
-            return 0;
-        };
-        if more == 0 {
-            return done;
-        }
-        done += more;
-    }
-    done
-}
-
-// Opens a file to read it. Opened for update first, a pipe without a writer does not keep the program waiting.
-fn open_file(name: &[u8]) -> i32 {
-    let fd = os::open_update(name);
-    if fd < 0 {
-        return os::open_read(name);
-    }
-    fd
-}
-
-// The bytes of a file, none where it is absent: how many.
-fn read_file(name: &[u8], bytes: &mut [u8]) -> usize
-    ensures { λ r. ⌜ r ≤ length (now (bytes .exit)) ⌝ }
-{
-    let fd = open_file(name);
-    if fd < 0 {
-        return 0;
-    }
-    let count = read_whole(fd, bytes);
-    libc::close(fd);
-    count
-}
-
 // The one writer. It is lent the bytes read of each file and takes the next part of what is printed for them, no other; it counts a
 // part that was written and tells one that could not be. It counts behind a reference, since a number could be handed over twice.
 fn put(net: &[u8], modfile: &[u8], stim: &[u8], part: &[u8], parts: &mut u32, failed: &mut bool)
@@ -134,7 +76,7 @@ fn print_refusal(
     ensures handed { λ _. ⌜ Handing (filesOf (now (net .entry)) (now (modfile .entry)) (now (stim .entry))) (now (parts .exit)) (now (failed .exit)) ⌝ }
 {
     let mut line = [0u8; 13];
-    let length = listing::write_refusal(answer, &mut line);
+    let length = file_checks::write_refusal(answer, &mut line);
     put(net, modfile, stim, &line[..length], parts, failed);
 }
 
@@ -205,7 +147,7 @@ fn run(
     requires { ⌜ now failed ≡ false ⌝ }
     ensures handed { λ r. ⌜ Handing (filesOf (take (r .net) (now (net .exit))) (take (r .modfile) (now (modfile .exit))) (take (r .stim) (now (stim .exit)))) (now (parts .exit)) (now (failed .exit)) ⌝ }
 {
-    let n = read_file(b"NET", net);
+    let n = file_reading::read_file(b"NET", net);
     let first = file_net::check_net(&net[..n], 4096);
     let NetAnswer::Accepted(_) = first else {
         let answer = file_checks::net_answer(first);
@@ -216,7 +158,7 @@ fn run(
             stim: 0,
         };
     };
-    let m = read_file(b"MOD", modfile);
+    let m = file_reading::read_file(b"MOD", modfile);
     let second = file_mod::check_mod(&net[..n], &modfile[..m]);
     let ModAnswer::Accepted(_, _) = second else {
         let answer = file_checks::mod_answer(second);
@@ -227,7 +169,7 @@ fn run(
             stim: 0,
         };
     };
-    let k = read_file(b"STIM", stim);
+    let k = file_reading::read_file(b"STIM", stim);
     let third = file_stim::check_stim(&net[..n], &stim[..k]);
     let StimAnswer::Accepted(lines) = third else {
         let answer = file_checks::stim_answer(third);

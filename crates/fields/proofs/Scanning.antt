@@ -1,4 +1,4 @@
--- Reading column by column finds a number just where the columns are spaces and then a numeral, and finds that number.
+-- Reading column by column finds a number exactly when the columns are spaces and then a numeral, and finds that number.
 use Prim.Native.Nat.{ℕ, _+_, _-_, _*_, _≤_}
 use mathlib.Core.Path.{_≡_, refl, sym, _∙_, subst, ap}
 use mathlib.Core.Bool.{Bool, true, false}

@@ -1,13 +1,16 @@
 // The three file checks one after the other, for the opening, and as one number for tests and measurements in C.
 
 ghost use mathlib.Core.Path.{_≡_};
-ghost use Prim.Native.Nat.{_+_, _*_};
+ghost use Prim.Native.Nat.{_+_, _*_, _≤_};
+ghost use lib.ListN.{length};
+ghost use lib.Seq.{sets};
 ghost use Rattle.model.specs.Acceptance.{panelLimit, fileCheck};
 ghost use Rattle.file_net.specs.Answer.{netRefusal};
 ghost use Rattle.file_mod_lines.specs.Answer.{modRefusal};
 ghost use Rattle.file_stim.specs.Answer.{stimRefusal};
 ghost use Rattle.file_checks.specs.Answer.{fileRefusal};
 ghost use Rattle.file_checks.specs.Code.{checked};
+ghost use Rattle.file_checks.specs.Refused.{refusedText};
 use file_mod_lines::ModAnswer;
 use file_net::NetAnswer;
 use file_stim::StimAnswer;
@@ -71,6 +74,18 @@ pub fn check_files(net: &[u8], modfile: &[u8], stim: &[u8]) -> FileAnswer
         return mod_answer(second);
     };
     stim_answer(file_stim::check_stim(net, stim))
+}
+
+// "prints one line of two fields, number and returned value": nothing where the files are accepted.
+pub fn write_refusal(answer: FileAnswer, out: &mut [u8]) -> usize
+    requires { ⌜ 13 ≤ length (now out) ⌝ }
+    ensures { λ r. ⌜ r ≡ length (refusedText (fileRefusal answer)) ⌝ }
+    ensures { λ _. ⌜ now (out .exit) ≡ sets (now (out .entry)) 0 (refusedText (fileRefusal answer)) ⌝ }
+{
+    let FileAnswer::Refused(number, returned) = answer else {
+        return 0;
+    };
+    writing::write_line(out, 0, &[number as u16, returned])
 }
 
 // A refusal's number and what it returns, as one number.

@@ -74,7 +74,7 @@ module _ (l : List ℕ) (k at : ℕ) (here : at ≡ 85 * (k + 1)) (n : Network) 
     unfolding modSlot first unless
     slot-right e = rw (line-judged n l (k / modSlots l) (k % modSlots l), line-index l k, ← here, right, ← is, e)
 
--- the first lines pass, for every network of so many signals
+-- the first lines pass, for every network of that size
 abbrev pub LinesPass : ℕ → List ℕ → ℕ → Type 0
 LinesPass signals l k = (n : Network) → n .size ≡ signals → firstBelow k (lineCheck n l) ≡ pass
 

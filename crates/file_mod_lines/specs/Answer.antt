@@ -49,6 +49,6 @@ pub record LinesLaid (modfile : List ℕ) (p c : ℕ) : Type 0 where
   pub few : network .size ≤ 4096
   pub lines : eachLine modfile (modSlot network modfile) ≡ pass
 
--- every line's signal is 0 or one of so many
+-- every line's signal is at most `size`
 abbrev pub SignalsWithin : List ℕ → ℕ → ℕ → ℕ → Type 0
 SignalsWithin modfile p c size = (q i : ℕ) → q < p → i < c → moduleOf modfile .signal q i ≤ size

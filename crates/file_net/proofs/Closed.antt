@@ -1,4 +1,4 @@
--- The graph that the code loads has an edge just where a rank-order gate feeds another, so that its loops are the closed chains.
+-- The graph that the code loads has an edge exactly where a rank-order gate feeds another, so that its loops are the closed chains.
 use Prim.Native.Nat.{ℕ, zero, suc, _+_, _*_, _/_, _%_, _<_, _≤_}
 use mathlib.Core.Path.{_≡_, refl, sym, _∙_, ap, subst}
 use mathlib.Core.Bool.{Bool, true, false}

@@ -29,7 +29,7 @@ struct Numbers {
     value: u16,
 }
 
-// What the numbers of a right line make of the file: the next line is read, or the check answers.
+// Whether a well-formed line lets checking go on, or decides the answer.
 enum Judged {
     ReadOn,
     Answered(StimAnswer),

@@ -110,7 +110,7 @@ fn and4(a: u8, b: u8, c: u8, d: u8) -> u8
     2
 }
 
-// XOR. A value's half is 1 just where it is U or Z.
+// XOR. A value's half is 1 exactly when it is U or Z.
 fn xor4(a: u8, b: u8, c: u8, d: u8) -> u8
     ensures { λ r. ⌜ r ≡ parity a b c d ⌝ }
 {

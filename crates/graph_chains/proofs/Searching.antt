@@ -1,5 +1,5 @@
 -- A search back from s: what is marked leads to s, and what is marked, or is s, has all its feeders marked or stands on the stack. So
--- when the stack is empty, s is marked just where it is on a loop.
+-- when the stack is empty, s is marked exactly when it is on a loop.
 use Prim.Native.Nat.{ℕ, zero, suc, _+_, _*_, _≤_, _<_}
 use mathlib.Core.Path.{_≡_, refl, sym, subst, _∙_}
 use mathlib.Core.Bool.{not}

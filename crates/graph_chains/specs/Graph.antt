@@ -47,7 +47,7 @@ pub record Graph (follow edges : List ℕ) (size : ℕ) : Type 0 where
   pub long : length follow ≡ places
   pub feeders : (x y : ℕ) → Edge edges x y → getD follow x 0 ≡ 1
 
--- the answer is true just where P holds
+-- the answer is true exactly when P holds
 pub record Decides (P : Type 0) (answer : Bool) : Type 0 where
   pub holds : answer ≡ true → P
   pub fails : answer ≡ false → P → ⊥

@@ -15,8 +15,8 @@ use Rattle.model.specs.Demands.{Trace, end, next}
 use Rattle.buffers_memory.specs.Memory.{memoryLength}
 use Rattle.buffers_tables.specs.Panel.{panelLength}
 use Rattle.buffers_tables.specs.Program.{programLength}
-use Rattle.buffers_lengths.specs.Lengths.{fixed}
-use Rattle.buffers_lengths.proofs.Sizes.{Sizes, sizes-same, same-sizes}
+use Rattle.buffers_lengths.specs.Lengths.{fixed, Sizes}
+use Rattle.buffers_lengths.proofs.Sizes.{sizes-same, same-sizes}
 use Rattle.buffers_range.specs.Ranges.{ranged}
 use Rattle.session_answers.specs.Answers.{answerBits}
 use Rattle.session_answers.specs.Apart.{apart}

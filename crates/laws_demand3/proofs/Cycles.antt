@@ -31,7 +31,7 @@ module _ (b : Buffers) (lengths : sameLengths (lengthsOf b) fixed ≡ true) (ran
   abbrev m : Module
   m = moduleIn (b .panel) (b .program)
 
-  -- so many cycles of the machine in the buffers, "fed the input values that the session holds for its next cycle"
+  -- j cycles of the machine in the buffers, "fed the input values that the session holds for its next cycle"
   abbrev pub cycled : ℕ → Memory
   cycled j = ticks (cycle n m (handIn (b .panel))) j (memoryOf (b .memory))
 

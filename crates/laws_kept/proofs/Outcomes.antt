@@ -1,4 +1,4 @@
--- What a call over buffers in range leaves is in range: the head's numbers by 41 and 42, the memory since a run is so many cycles.
+-- What a call over buffers in range leaves is in range: the head's numbers by 41 and 42, the memory since a run is a number of cycles.
 use Prim.Native.Nat.{ℕ, _≤_}
 use mathlib.Core.Path.{_≡_, refl}
 use mathlib.Core.Bool.{Bool, true}
@@ -22,7 +22,8 @@ use Rattle.session_state.specs.Header.{headIn}
 use Rattle.buffers_lengths.specs.Lengths.{fixed}
 use Rattle.session_calls.specs.Reply.{Buffers}
 use Rattle.session_calls.proofs.Replies.{checkIn, outcomeIn}
-use Rattle.laws_kept.proofs.Panels.{InRange, head-in-range, with-value-in-range}
+use Rattle.laws_kept.specs.Sound.{InRange}
+use Rattle.laws_kept.proofs.Panels.{head-in-range, with-value-in-range}
 use Rattle.laws_kept.proofs.Memories.{small-in, run-small}
 
 -- an outcome in range

@@ -21,15 +21,8 @@ use Rattle.buffers_range.specs.Ranges.{codesRanged}
 use Rattle.buffers_range.proofs.Numbers.{Numbers, Panel, input-zeros, zeros-input, supplied-gate, codes-function, codes-translation}
 use Rattle.buffers_range.proofs.Laid.{Line}
 use Rattle.buffers_range.proofs.Ranged.{Program}
+use Rattle.laws_kept.specs.Sound.{InRange}
 use Rattle.laws_kept.proofs.Heads.{with-head-hand, with-head-kept, with-head-signals, with-head-processors, with-head-slots, with-head-watched, with-head-mask, with-head-column, with-head-kind, with-head-processor, with-head-slot, with-head-module, with-head-size}
-
--- a head whose numbers are in range: the watch is of a signal, values in hand are codes, and 0 above N
-pub record InRange (panel : List ℕ) (h : Head) : Type 0 where
-  pub watched-low : 1 ≤ h .watch .signal
-  pub watched-high : h .watch .signal ≤ signalsIn panel
-  pub mask-high : h .watch .mask ≤ 15
-  pub hands : (s : ℕ) → 1 ≤ s → s ≤ signalsIn panel → h .hand s ≤ 3
-  pub rest : (s : ℕ) → signalsIn panel < s → s ≤ 4096 → h .hand s ≡ 0
 
 -- the head of a panel in range
 pub head-in-range : (panel : List ℕ) → Panel panel → InRange panel (headIn panel)

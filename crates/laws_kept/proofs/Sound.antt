@@ -1,5 +1,5 @@
 -- Heads that a panel takes in and gives back: written into it, a head in range leaves all in range, and is the head that it then holds.
-use Prim.Native.Nat.{ℕ, zero, suc, _+_, _*_, _%_, _<_, _≤_}
+use Prim.Native.Nat.{ℕ, zero, suc, _+_, _*_, _≤_}
 use mathlib.Core.Path.{_≡_, refl, sym, _∙_}
 use mathlib.Core.Bool.{Bool, true, false}
 use mathlib.Core.List.{List}
@@ -13,15 +13,9 @@ use Rattle.buffers_range.proofs.Ranged.{Values, is-ranged, panel-in-range, prog
 use Rattle.session_state.specs.Header.{headIn, withHead}
 use Rattle.session_state.specs.Commands.{withValue}
 use Rattle.session_state.proofs.Heads.{same-head, past-end}
+use Rattle.laws_kept.specs.Sound.{Sound}
 use Rattle.laws_kept.proofs.Heads.{session-byte, with-head-length, with-head-hand, with-head-processors, with-head-slots, with-head-finished, with-head-watched, with-head-mask}
-use Rattle.laws_kept.proofs.Panels.{InRange, replaced-else, with-value-in-range, with-head-panel, with-head-program}
-
--- A head in range that is a panel's own: what it holds for index 0, which is no signal, is the byte that stands there, and it holds
--- nothing above 4096.
-pub record Sound (panel : List ℕ) (h : Head) : Type 0 where
-  pub range : InRange panel h
-  pub zeroth : h .hand 0 ≡ h .watch .signal % 256
-  pub beyond : (s : ℕ) → 4096 < s → h .hand s ≡ 0
+use Rattle.laws_kept.proofs.Panels.{replaced-else, with-value-in-range, with-head-panel, with-head-program}
 
 -- an input's value in hand replaced
 pub with-value-sound : (panel : List ℕ) (h : Head) → signalsIn panel ≤ 4096 → Sound panel h → (s v : ℕ) → 1 ≤ s → s ≤ signalsIn panel → v ≤ 3

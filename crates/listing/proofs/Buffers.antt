@@ -1,5 +1,5 @@
 -- What the files say of the buffers after t cycles: the panel holds the network and the module, the values in hand are STIM's and the
--- places hold VAL; and one cycle more makes of them what the files say of t + 1.
+-- places hold VAL; and one cycle more turns them into what the files say of t + 1.
 use Prim.Native.Nat.{ℕ, zero, suc, _+_, _*_, _/_, _%_, _<_, _≤_}
 use mathlib.Core.Path.{_≡_, refl, sym, _∙_, ap}
 use mathlib.Core.Bool.{Bool, true, false}

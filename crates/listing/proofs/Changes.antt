@@ -1,8 +1,8 @@
--- The lines of changes, signal by signal: what the first of them make of the two buffers.
+-- The lines of changes, signal by signal: what the two buffers hold after the first of them.
 use Prim.Native.Nat.{ℕ, suc, _+_, _*_, _<_, _≤_}
 use mathlib.Core.Path.{_≡_, refl, sym, _∙_, ap}
 use mathlib.Core.Bool.{Bool, true, false}
-use mathlib.Core.List.{List, [], _∷_, flatMap}
+use mathlib.Core.List.{List, [], _∷_}
 use native.Mathlib.Omega.{arith}
 use native.Mathlib.Numerals.{add-one}
 use native.Mathlib.Decide.{ℕ-discrete, decLt}
@@ -13,16 +13,10 @@ use borrow.Author.Tests.{eq-eqb, ne-eqb, le-leb, lt-leb}
 use Rattle.logic.specs.Test.{_and_}
 use Rattle.logic.specs.Choice.{if_then_else_}
 use Rattle.logic.proofs.Listed.{is-listed}
-use Rattle.writing.specs.Text.{fieldText, lineText}
-use Rattle.writing.proofs.Writing.{sets-append, length-fields}
-use Rattle.model.specs.Refusal.{Check, pass, fail}
-use Rattle.model.specs.Listing.{joined, refusalLine}
-use Rattle.listing.specs.Refused.{refusedText}
+use Rattle.writing.specs.Text.{lineText}
+use Rattle.writing.proofs.Writing.{sets-append, length-line}
+use Rattle.model.specs.Listing.{joined}
 use Rattle.listing.specs.Changes.{shownLength, changeLine, changeLines, shownWith}
-
-pub length-line : (numbers : List ℕ) → length (lineText numbers) ≡ 6 * length numbers + 1
-unfolding lineText
-length-line numbers = length-append (flatMap fieldText numbers) _ ∙ omega (arith, length-fields numbers)
 
 -- one signal
 module _ (time s value shown : ℕ) where
@@ -108,9 +102,3 @@ module _ {n time : ℕ} {values old : ℕ → ℕ} {lent : List ℕ} {s at : ℕ
         w .bytes ∙ ap (λ (k : ℕ). sets lent 0 (changeLines k time values old)) q,
         written-shown ∙ ap (λ (k : ℕ). shownWith k values old) q,
       )
-
--- a refusal has at most one line
-pub refused-short : (c : Check) → length (refusedText c) ≤ 13
-unfolding refusedText refusalLine
-refused-short pass = omega arith
-refused-short (fail number returned) = omega (arith, length-line (number ∷ returned ∷ []))

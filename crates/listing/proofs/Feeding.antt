@@ -19,7 +19,8 @@ use Rattle.model.proofs.Accepted.{stim-right, times-rise}
 use Rattle.buffers_tables.specs.Panel.{signalsIn}
 use Rattle.session_state.specs.Commands.{inputIn, withValue, commanded}
 use Rattle.session_state.proofs.Commands.{input-signal, signal-low, signal-high, set-no-signal, set-no-value, set-done}
-use Rattle.laws_kept.proofs.Sound.{Sound, with-value-sound}
+use Rattle.laws_kept.specs.Sound.{Sound}
+use Rattle.laws_kept.proofs.Sound.{with-value-sound}
 use Rattle.file_stim.specs.declared.Cursor.{Cursor}
 use Rattle.file_stim.proofs.Steps.{GivenAt}
 use Rattle.listing.specs.Feeding.{Passed, PanelInputs, InHand, Fed}

@@ -5,6 +5,3 @@ pub mod Buffers
 pub mod Pieces
 pub mod Standing
 pub mod Opening
-pub mod Printed
-pub mod Inhabited
-pub mod Contracts

@@ -21,7 +21,7 @@ use Rattle.model.proofs.Demands.{joined-same}
 use Rattle.listing.specs.Changes.{pieceLength, notShown, changeLine, changeLines}
 use Rattle.listing.specs.Pieces.{pieceAt}
 use Rattle.listing.specs.Buffers.{shownAt}
-use Rattle.listing.proofs.Changes.{length-line}
+use Rattle.writing.proofs.Writing.{length-line}
 use Rattle.listing.proofs.Buffers.{shown-signal}
 
 joined-short : (f : ℕ → List ℕ) → ((j : ℕ) → length (f j) ≤ 19) → (n : ℕ) → length (joined n f) ≤ 19 * n

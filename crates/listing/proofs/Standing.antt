@@ -33,7 +33,7 @@ use Rattle.session_state.specs.Commands.{signalIn, inputIn}
 use Rattle.session_state.proofs.Heads.{same-head, past-end}
 use Rattle.session_calls.proofs.Watched.{ranged-processor}
 use Rattle.laws_kept.proofs.Panels.{head-in-range}
-use Rattle.laws_kept.proofs.Sound.{Sound}
+use Rattle.laws_kept.specs.Sound.{Sound}
 use Rattle.laws_kept.proofs.Holding.{with-head-holding}
 use Rattle.file_stim.proofs.Passed.{nothing-later, given-by-then}
 use Rattle.file_stim.proofs.Steps.{line-right, time-field}

@@ -7,8 +7,8 @@ use lib.ListN.{length}
 use Rattle.model.specs.Session.{Head}
 use Rattle.buffers_tables.specs.Panel.{handIn}
 use Rattle.buffers_range.specs.Ranges.{ranged}
-use Rattle.buffers_lengths.proofs.Sizes.{Sizes}
-use Rattle.laws_kept.proofs.Sound.{Sound}
+use Rattle.buffers_lengths.specs.Lengths.{Sizes}
+use Rattle.laws_kept.specs.Sound.{Sound}
 
 -- working buffers of their lengths and in range
 pub record RightBuffers (panel program memory : List ℕ) : Type 0 where

@@ -10,7 +10,7 @@ use Rattle.model.specs.Stimulus.{stimTime, stimCheck, stimCount, lastGiven}
 use Rattle.model.specs.Session.{Head}
 use Rattle.buffers_tables.specs.Panel.{signalsIn}
 use Rattle.session_state.specs.Commands.{inputIn}
-use Rattle.laws_kept.proofs.Sound.{Sound}
+use Rattle.laws_kept.specs.Sound.{Sound}
 
 -- a STIM that some network accepts
 pub record Stimulus (stim : List ℕ) : Type 0 where

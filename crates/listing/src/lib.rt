@@ -1,4 +1,4 @@
-// The listing, a piece a step (01, Listing): time 0, then every cycle, then the last line; and the line of a refusal.
+// The listing, a piece a step (01, Listing): time 0, then every cycle, then the last line.
 
 ghost use mathlib.Core.Path.{_≡_};
 ghost use mathlib.Core.Bool.{false};
@@ -12,15 +12,12 @@ ghost use Rattle.buffers_memory.specs.Memory.{memoryLength, memoryOf, withMemor
 ghost use Rattle.buffers_tables.specs.Panel.{panelLength, signalsIn, processorsIn, slotsIn, processorIn};
 ghost use Rattle.buffers_tables.specs.Program.{programLength};
 ghost use Rattle.machine_run.specs.Running.{cycleIn};
-ghost use Rattle.file_checks.specs.Answer.{fileRefusal};
 ghost use Rattle.session_state.specs.Header.{headOf, withHead};
-ghost use Rattle.listing.specs.Refused.{refusedText};
 ghost use Rattle.listing.specs.Changes.{pieceLength, shownLength, valueHeld, changeLine, changeLines, shownWith};
 ghost use Rattle.listing.specs.Feeding.{Stimulus, Passed, Fed};
 ghost use Rattle.listing.specs.Cycling.{Ready, InPanel, cycled};
 ghost use Rattle.listing.specs.Standing.{Stands, Standing, Gives};
 use buffers_tables::Cycle;
-use file_checks::FileAnswer;
 use file_stim::Cursor;
 use file_stim::Step;
 use session_state::Session;
@@ -43,18 +40,6 @@ pub struct Piece {
 struct Settled {
     session: Session,
     cursor: Cursor,
-}
-
-// "prints one line of two fields, number and returned value": nothing where the files are accepted.
-pub fn write_refusal(answer: FileAnswer, out: &mut [u8]) -> usize
-    requires { ⌜ 13 ≤ length (now out) ⌝ }
-    ensures { λ r. ⌜ r ≡ length (refusedText (fileRefusal answer)) ⌝ }
-    ensures { λ _. ⌜ now (out .exit) ≡ sets (now (out .entry)) 0 (refusedText (fileRefusal answer)) ⌝ }
-{
-    let FileAnswer::Refused(number, returned) = answer else {
-        return 0;
-    };
-    writing::write_line(out, 0, &[number as u16, returned])
 }
 
 // The line of a signal, where its value is not the one last shown; the place after it.

@@ -58,7 +58,7 @@ module _ {A : Type 0} (p : A → Bool) where
       go true h = omega arith
       go false h = omega arith
 
-  -- some element passes just where one is counted
+  -- some element passes exactly when one is counted
   pub some-counted : (xs : List A) → 0 < count p xs → some p xs ≡ true
   unfolding count some _or_
   some-counted [] h = absurd (omega arith)
@@ -77,7 +77,7 @@ module _ {A : Type 0} (p : A → Bool) where
       go true h k = absurd (omega arith)
       go false h k = k (omega arith)
 
-  -- every element passes just where all are counted
+  -- every element passes exactly when all are counted
   pub every-counted : (xs : List A) → count p xs ≡ length xs → every p xs ≡ true
   unfolding count every _and_
   every-counted [] h = refl

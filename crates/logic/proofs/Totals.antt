@@ -1,4 +1,4 @@
--- Laws of `total`: the sum is 0 just where every term is, and 1 just where one term is 1 and all others are 0.
+-- Laws of `total`: the sum is 0 exactly when every term is, and 1 exactly when one term is 1 and all others are 0.
 use Prim.Native.Nat.{ℕ, zero, suc, _+_, _<_, _≤_}
 use mathlib.Core.Path.{_≡_, refl}
 use mathlib.Core.Bool.{Bool, true, false}

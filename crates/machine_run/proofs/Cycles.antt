@@ -39,7 +39,7 @@ module _ (n : Network) (m : Module) (laid : Laid n m) (few : m .processors ≤ 1
       with-memory-step m few short alternate (λ w u near. near-alternated near) (slots n m row (m .slots) (memoryOf old)) old l r el
       (er ∙ ap (λ (x : ℕ). withMemory x c (alternate (memoryOf l)) l) ep ∙ ap (λ (x : ℕ). withMemory (m .processors) x (alternate (memoryOf l)) l) ec)
 
--- so many cycles more
+-- one cycle more, at the end
 ticks-more : {S : Type 0} (tick : S → S) (j : ℕ) (s : S) → ticks tick (suc j) s ≡ tick (ticks tick j s)
 unfolding ticks
 ticks-more tick zero s = refl

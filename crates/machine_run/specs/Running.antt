@@ -1,4 +1,4 @@
--- What the machine makes of the working tables and a memory.
+-- A cycle and a run of the machine that the working tables hold, on a memory.
 use Prim.Native.Nat.{ℕ, _≤_, _<_}
 use mathlib.Core.List.{List}
 use Rattle.model.specs.Machine.{Memory, cycle}

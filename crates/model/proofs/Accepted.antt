@@ -303,7 +303,7 @@ pub record StimRight (n : Network) (stim : List ℕ) : Type 0 where
   pub given : (index : ℕ) → index < stimCount stim → GivenRight n stim index
   pub end : EndRight stim (stimCount stim)
 
--- the same of the lines from an index on, at most so many of them, e being the end line's index
+-- the same of at most `left` lines from an index on, e being the end line's index
 record StimFrom (n : Network) (stim : List ℕ) (left index e : ℕ) : Type 0 where
   few : e < index + left
   given : (k : ℕ) → index ≤ k → k < e → GivenRight n stim k

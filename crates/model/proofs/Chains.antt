@@ -1,4 +1,4 @@
--- Refusal 13 is exact: the test finds a closed chain through s just where there is one, and the check returns the smallest such
+-- Refusal 13 is exact: the test finds a closed chain through s exactly when there is one, and the check returns the smallest such
 -- signal. A chain is read as a walk with its steps counted. A walk of N steps or more meets a gate twice, for it has more gates than
 -- the network (the pigeon-hole), so it can be cut short: what the test finds by its bounded search is all there is. And where no
 -- chain is closed, no walk has N steps.
@@ -34,7 +34,7 @@ lazy-and false b = refl
 abbrev isRank : Network → ℕ → Bool
 isRank n s = isSignal n s and eqb (n .kind s) rankOrder
 
--- a walk along rank-order gates, of so many steps from a to b
+-- a walk of d steps along rank-order gates from a to b
 pub data Walk (n : Network) : ℕ → ℕ → ℕ → Type 0 where
   here : {s : ℕ} → Signal n s → n .kind s ≡ rankOrder → Walk n 0 s s
   on : {d a b c : ℕ} → Walk n d a b → Feeds n b c → Walk n (suc d) a c
@@ -300,7 +300,7 @@ module _ (n : Network) where
         before = λ i l. pass-open i (m .no-smaller (suc i) (omega arith));
       })
 
--- The check of a file passes just where no chain is closed, and fails just as 13 with the smallest signal on a closed chain.
+-- The check of a file passes exactly when no chain is closed, and fails as 13 with the smallest signal on a closed chain.
 module _ (net : List ℕ) where
   pub chains-pass : netChains net ≡ pass → Acyclic (network net)
   unfolding netChains network

@@ -1,4 +1,4 @@
--- What the tests on a module's lines say. An operand of a gate passes (23) just where its location carries the gate's source, of the
+-- What the tests on a module's lines say. An operand of a gate passes (23) exactly when its location carries the gate's source, of the
 -- cycle that the gate takes it from: one statement for the four parts, by their common type `Carries`. A send that passes (24) names a
 -- signal, stored already where it is sent from the present half; a reception that passes (25) has a send.
 use Prim.Native.Nat.{ℕ, zero, suc, _≤_, _<_}
@@ -141,7 +141,7 @@ module _ (n : Network) (m : Module) (p i j : ℕ) (some : 1 ≤ m .signal p i) (
       rw (may-read, ne-eqb (n .source (m .signal p i) j) 0 (λ (e : n .source (m .signal p i) j ≡ 0). omega arith))
       (carries-reads m p i (n .kind (m .signal p i)) gate refl c)
 
-  -- 23 is exact: the operand passes just where it is what the gate wants
+  -- 23 is exact: the operand passes exactly when it is what the gate wants
   pub operand-exact : (operandRight n m p i j ≡ true) ↔ Fits n m p i j
   operand-exact = (right-fits, fits-right)
 

@@ -1,4 +1,4 @@
--- Refusal 22 leaves exactly the signals with one place: `placements` is 1 just where there is a place and no other.
+-- Refusal 22 leaves exactly the signals with one place: `placements` is 1 exactly when there is a place and no other.
 use Prim.Native.Nat.{ℕ}
 use mathlib.Core.Path.{_≡_, ap}
 use native.Mathlib.Omega.{arith}

@@ -1,4 +1,4 @@
--- Laws of `specs/Refusal.antt`: a check made of others passes just where they all pass, and where it fails, it fails as the first of
+-- Laws of `specs/Refusal.antt`: a check made of others passes exactly when they all pass, and where it fails, it fails as the first of
 -- them that does.
 use Prim.Native.Nat.{ℕ, zero, suc, _<_}
 use mathlib.Core.Path.{_≡_, refl, sym, subst, _∙_}

@@ -8,7 +8,7 @@ use native.Mathlib.Omega.{arith}
 use Rattle.model.specs.Session.{Run, unlessStopped, runs, ticks}
 
 module _ {S : Type 0} (tick : S → S) (stops : S → Bool) where
-  -- state: what so many cycles leave. most: no more than k. before: no cycle before the last one shows a watched value.
+  -- state: what that number of cycles leaves. most: no more than k. before: no cycle before the last one shows a watched value.
   -- last: if it was stopped, the last cycle shows one. whole: if not, all k cycles were done and the last shows none.
   pub record Exact (k : ℕ) (s : S) (r : Run S) : Type 0 where
     pub state : r .state ≡ ticks tick (r .count) s

@@ -64,7 +64,7 @@ stimEnd stim index =
     first (unless (leb (timeBefore stim index) (stimTime stim index)) 31 (index + 1))
     (unless (leb (length stim) (stimLine (index + 1))) 30 (index + 2))
 
--- the lines from an index on, at most so many of them: 30 before 31 before 32 in each, and 30 where there is none left
+-- at most `left` lines from an index on: 30 before 31 before 32 in each, and 30 where there is none left
 unfoldable pub stimLines : Network → List ℕ → ℕ → ℕ → Check
 stimLines n stim zero index = unless false 30 (index + 1)
 stimLines n stim (suc left) index =

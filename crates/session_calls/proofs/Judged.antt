@@ -7,12 +7,12 @@ use Rattle.logic.specs.Choice.{if_then_else_}
 use Rattle.model.specs.Session.{sameLengths}
 use Rattle.buffers_memory.specs.Memory.{MemoryBytes}
 use Rattle.buffers_tables.specs.Panel.{signalsIn, processorIn}
-use Rattle.buffers_lengths.proofs.Sizes.{Sizes as SizesOf, sizes-same, same-sizes}
+use Rattle.buffers_lengths.specs.Lengths.{fixed, Sizes as SizesOf}
+use Rattle.buffers_lengths.proofs.Sizes.{sizes-same, same-sizes}
 use Rattle.buffers_range.specs.Ranges.{ranged}
 use Rattle.buffers_range.proofs.Ranged.{head-ranged, ranged-tables, ranged-memory}
 use Rattle.buffers_tables.specs.Tables.{Tables}
 use Rattle.machine_run.specs.Running.{Watching}
-use Rattle.buffers_lengths.specs.Lengths.{fixed}
 use Rattle.session_calls.specs.declared.Ready.{Ready}
 use Rattle.session_calls.specs.declared.Ready.the-variants.{Right, WrongLength, OutOfRange}
 use Rattle.session_calls.specs.Reply.{Buffers, lengthsOf}

@@ -19,7 +19,7 @@ abbrev pub openingCheckLent : (net modfile stim panel program memory : List ℕ)
 openingCheckLent net modfile stim panel program memory =
     openingCheck (record { NET = net; MOD = modfile; STIM = stim }) (lengthsLent panel program memory)
 
--- "A refused opening leaves the working buffers all zero, as far as they were lent to it": so many zeros
+-- "A refused opening leaves the working buffers all zero, as far as they were lent to it": that number of zeros
 abbrev pub cleared : ℕ → List ℕ
 cleared size = listed size (λ a. 0)
 

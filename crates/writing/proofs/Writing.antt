@@ -70,3 +70,8 @@ module _ (l numbers : List ℕ) (at : ℕ) where
       ap (λ (r : List ℕ). set r place 10) o
       ∙ sets-append l (flatMap fieldText (take k numbers)) (10 ∷ []) at place (rw (e, take-length) (omega (arith, length-fields numbers)))
       ∙ rw (e, take-length)
+
+-- six columns a field, and the end of the line
+pub length-line : (numbers : List ℕ) → length (lineText numbers) ≡ 6 * length numbers + 1
+unfolding lineText
+length-line numbers = length-append (flatMap fieldText numbers) _ ∙ omega (arith, length-fields numbers)

@@ -1,8 +1,8 @@
 -- The line of a refusal fits, and is the one part of what is printed.
 use mathlib.Core.Path.{_∙_}
 use native.Mathlib.Omega.{arith}
-use Rattle.listing.specs.Refused.{refusedText}
-use Rattle.listing.proofs.Changes.{refused-short}
+use Rattle.file_checks.specs.Refused.{refusedText}
+use Rattle.file_checks.proofs.Refused.{refused-short}
 use borrow.Author.Needs.{needs}
 use Rattle.cavundir.proofs.Parts.{prefix-length}
 use Rattle.cavundir.proofs.Printing.{written, line-short, refusal-part, refusal-count, refusal-handed}

@@ -2,7 +2,8 @@
 use mathlib.Core.Path.{refl, _∙_, sym, ap}
 use native.Mathlib.Omega.{arith}
 use Prim.Native.Nat.{ℕ, _+_}
-use Rattle.listing.proofs.Changes.{length-line, line-none, line-there}
+use Rattle.writing.proofs.Writing.{length-line}
+use Rattle.listing.proofs.Changes.{line-none, line-there}
 use borrow.Author.Needs.{needs}
 use Rattle.listing.proofs.write_change.Statement.{statement}
 use Rattle.listing.proofs.write_change.Tie as tie

@@ -1,4 +1,4 @@
--- The invariant: the memory holds what so many cycles left, and none of them showed a watched value.
+-- The invariant: the memory holds what the cycles done left, and none of them showed a watched value.
 use Prim.Native.Nat.{ℕ, _≤_, _<_, _-_}
 use mathlib.Core.Path.{_≡_, _∙_, sym, subst}
 use Rattle.model.specs.Module.{At}

@@ -2,7 +2,7 @@
 use mathlib.Core.Path.{refl, sym, _∙_}
 use native.Mathlib.Omega.{arith}
 use borrow.Author.Tests.{eqb-true, not-false}
-use Rattle.listing.proofs.Changes.{length-line}
+use Rattle.writing.proofs.Writing.{length-line}
 use Rattle.listing.proofs.Standing.{right-signals, right-processor, right-memory, stands-stimulus, stands-few, stands-end, stands-pieces, gives-last, at-count, by-count, gives-zeroth, later-ready, later-unfed, later-right, gives-later}
 use borrow.Author.Needs.{needs}
 use Rattle.listing.proofs.Lister.step.Statement.{statement}

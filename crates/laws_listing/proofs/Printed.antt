@@ -27,14 +27,15 @@ use Rattle.file_mod_lines.proofs.Prefix.{mod-prefix}
 use Rattle.file_stim.proofs.Prefix.{stim-prefix}
 use Rattle.file_checks.specs.declared.FileAnswer.{FileAnswer}
 use Rattle.file_checks.specs.Answer.{fileRefusal}
 use Rattle.listing.specs.declared.Lister.{Lister}
-use Rattle.listing.specs.Refused.{refusedText}
+use Rattle.file_checks.specs.Refused.{refusedText}
 use Rattle.listing.specs.Pieces.{pieceCount, pieceAt}
 use Rattle.listing.specs.Standing.{Stands, Gives}
 use Rattle.listing.proofs.Standing.{end-small}
-use Rattle.listing.specs.Printing.{firstBytes, inOrder, Steps, over, more, Prints, net-refused, mod-refused, stim-refused, listed}
+use Rattle.laws_listing.specs.Reading.{firstBytes}
+use Rattle.laws_listing.specs.Printing.{inOrder, Steps, over, more, Prints, net-refused, mod-refused, stim-refused, listed}
 
--- the pieces of a listing from one on, so many
+-- n pieces of a listing from piece k on
 piecesFrom : (ℕ → List ℕ) → ℕ → ℕ → List (List ℕ)
 piecesFrom g k zero = []
 piecesFrom g k (suc n) = g k ∷ piecesFrom g (suc k) n

@@ -33,19 +33,20 @@ use Rattle.session_state.specs.declared.Session.{Session}
 use Rattle.session_state.specs.Header.{headIn, headOf, withHead}
 use Rattle.session_state.proofs.Heads.{same-head, past-end, decoded}
 use Rattle.file_stim.proofs.Steps.{GivenAt}
 use Rattle.listing.specs.declared.Lister.{Lister}
 use Rattle.listing.specs.declared.Piece.{Piece}
 use Rattle.listing.specs.Changes.{pieceLength, shownLength, notShown, valueHeld, changeLines, shownWith}
 use Rattle.listing.specs.Feeding.{Fed}
 use Rattle.listing.specs.Cycling.{cycled}
 use Rattle.listing.specs.Pieces.{pieceCount}
 use Rattle.listing.specs.Buffers.{lineAt}
 use Rattle.listing.specs.Standing.{Stands, Gives}
-use Rattle.listing.specs.Printing.{firstBytes, inOrder, Steps, over, more, Prints, net-refused, mod-refused, stim-refused, listed as all-listed}
+use Rattle.laws_listing.specs.Reading.{firstBytes}
+use Rattle.laws_listing.specs.Printing.{inOrder, Steps, over, more, Prints, net-refused, mod-refused, stim-refused, listed as all-listed}
 use Rattle.listing.proofs.Feeding.{fed-starts, fed-more, lines-passed}
 use Rattle.listing.proofs.Standing.{right-signals, stands-few, stands-sound, at-count, by-count, gives-last, gives-zeroth, gives-later}
 use Rattle.listing.proofs.Opening.{opened}
-use Rattle.listing.proofs.Printed.{program-prints, program-demand-2}
+use Rattle.laws_listing.proofs.Printed.{program-prints, program-demand-2}
 
 -- a session that has a head
 abbrev sessionOf : Head → Session
@@ -155,7 +156,7 @@ module _ {files : Files} {k : ℕ} {l : Lister} {stim panel program memory shown
       go (no d) (yes e) = steps-first e
       go (no d) (no e) = steps-later e (omega arith)
 
--- so many steps
+-- as many steps as there are pieces left
 abbrev lent : List ℕ
 lent = listed pieceLength (λ a. 0)
 

@@ -1,11 +1,11 @@
 -- `write_refusal` writes the line of two fields, or nothing.
 use mathlib.Core.Path.{refl, _∙_, sym}
-use Rattle.listing.specs.Refused.{refusedText}
+use Rattle.file_checks.specs.Refused.{refusedText}
 use Rattle.model.specs.Listing.{refusalLine}
-use Rattle.listing.proofs.Changes.{length-line}
+use Rattle.writing.proofs.Writing.{length-line}
 use borrow.Author.Needs.{needs}
-use Rattle.listing.proofs.write_refusal.Statement.{statement}
-use Rattle.listing.proofs.write_refusal.Tie as tie
+use Rattle.file_checks.proofs.write_refusal.Statement.{statement}
+use Rattle.file_checks.proofs.write_refusal.Tie as tie
 
 enum-known-answer : tie.Need-enum-known-answer
 enum-known-answer c = search needs

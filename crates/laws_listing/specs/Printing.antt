@@ -11,16 +11,12 @@ use Rattle.model.specs.Stimulus.{stimCheck}
 use Rattle.model.specs.Acceptance.{panelLimit, networkOf, Accepted}
 use Rattle.file_checks.specs.declared.FileAnswer.{FileAnswer}
 use Rattle.file_checks.specs.Answer.{fileRefusal}
 use Rattle.listing.specs.declared.Lister.{Lister}
 use Rattle.listing.specs.declared.Piece.{Piece}
 use Rattle.listing.specs.Changes.{pieceLength}
-use Rattle.listing.specs.Refused.{refusedText}
+use Rattle.file_checks.specs.Refused.{refusedText}
 use Rattle.listing.specs.Pieces.{pieceCount}
 use Rattle.listing.specs.Standing.{Stands, Gives}
-
--- the bytes that are read of each file: one more than the file may have
-abbrev pub firstBytes : Files → Files
-firstBytes files = record { NET = take 299082 (files .NET); MOD = take 348246 (files .MOD); STIM = take 1245147 (files .STIM) }
 
 -- pieces one after the other
 unfoldable pub inOrder : List (List ℕ) → List ℕ

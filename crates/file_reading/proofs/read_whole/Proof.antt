@@ -4,9 +4,9 @@ use mathlib.Core.Path.{_≡_, refl, _∙_}
 use lib.ListN.{length}
 use native.Mathlib.Omega.{arith}
 use borrow.Author.Needs.{needs}
-use Rattle.cavundir.proofs.Parts.{whole-kept, within}
-use Rattle.cavundir.proofs.read_whole.Statement.{statement}
-use Rattle.cavundir.proofs.read_whole.Tie as tie
+use Rattle.file_reading.proofs.Parts.{whole-kept, within}
+use Rattle.file_reading.proofs.read_whole.Statement.{statement}
+use Rattle.file_reading.proofs.read_whole.Tie as tie
 
 abbrev Inv-loop : tie.InvT-loop
 Inv-loop fd bytes₀ done₀ bytes done = (length bytes ≡ length bytes₀) × (done ≤ length bytes)

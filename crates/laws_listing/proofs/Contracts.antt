@@ -12,20 +12,20 @@ use borrow.Fn.Kinds.{Dens, resT, endedOf}
 use Rattle.model.specs.Files.{Files}
 use Rattle.buffers_tables.specs.declared.Cycle.{Cycle}
 use Rattle.file_checks.specs.Answer.{fileRefusal}
 use Rattle.listing.specs.declared.Lister.{Lister}
 use Rattle.listing.specs.Changes.{pieceLength}
-use Rattle.listing.specs.Refused.{refusedText}
+use Rattle.file_checks.specs.Refused.{refusedText}
 use Rattle.listing.specs.Pieces.{pieceCount}
 use Rattle.listing.specs.Standing.{Stands}
-use Rattle.listing.specs.Printing.{Steps, more}
+use Rattle.laws_listing.specs.Printing.{Steps, more}
 use Rattle.listing.proofs.Lister.step.Kinds.{ps as step-ps, r as step-r}
 use Rattle.listing.proofs.Lister.step.Reads.{Learnt as StepTells}
 use Rattle.listing.proofs.open.Kinds.{ps as open-ps, r as open-r}
 use Rattle.listing.proofs.open.Reads.{Learnt as OpenTells}
 use Rattle.listing.proofs.piece_count.Kinds.{ps as count-ps, r as count-r}
 use Rattle.listing.proofs.piece_count.Reads.{Learnt as CountTells}
-use Rattle.listing.proofs.write_refusal.Kinds.{ps as refusal-ps, r as refusal-r}
-use Rattle.listing.proofs.write_refusal.Reads.{Learnt as RefusalTells}
+use Rattle.file_checks.proofs.write_refusal.Kinds.{ps as refusal-ps, r as refusal-r}
+use Rattle.file_checks.proofs.write_refusal.Reads.{Learnt as RefusalTells}
 
 -- a step
 pub step-more : (κs : Lfts 6) (a : Dens κs step-ps) (p : resT step-r κs .Denot) (left : AtExit (endedOf 6 step-ps step-r) κs)

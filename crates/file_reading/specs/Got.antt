@@ -2,8 +2,8 @@
 use Prim.Native.Nat.{ℕ, _≤_}
 use mathlib.Core.List.{List}
 use lib.ListN.{length}
-use Rattle.cavundir.specs.declared.Got.{Got}
-use Rattle.cavundir.specs.declared.Got.the-variants.{Bytes, Failed}
+use Rattle.file_reading.specs.declared.Got.{Got}
+use Rattle.file_reading.specs.declared.Got.the-variants.{Bytes, Failed}
 
 abbrev pub Brought : Got → List ℕ → Type 0
 Brought (Bytes count) part = count ≤ length part

@@ -1,0 +1,1 @@
+// Theorems about what the listing's functions make: `printed` of the whole files, for all files, and nothing else.
