@@ -21,12 +21,6 @@ cast-line-place-3 c = let s = c .before in omega (arith, slots-range (s .pre .0)
 line-place-requires : tie.Need-line-place-requires
 line-place-requires c κs = let s = c .before in (omega (arith, processors-range (s .pre .0), s .pre .1 .1), omega (arith, slots-range (s .pre .0), s .pre .1 .0, s .pre .1 .2), omega (arith, slots-range (s .pre .0), s .pre .1 .0))
 
-mul-number-at : tie.Need-mul-number-at
-mul-number-at c = search needs
-
-add-number-at : tie.Need-add-number-at
-add-number-at c = search needs
-
 number-at-requires : tie.Need-number-at-requires
 number-at-requires c κs =
     let s = c .before .before in
@@ -48,7 +42,7 @@ field-at-spec =
     cast-line-place-2
     cast-line-place-3
     line-place-requires
-    mul-number-at
-    add-number-at
+    (λ c. search needs)
+    (λ c. search needs)
     number-at-requires
     returns)

@@ -16,9 +16,6 @@ Inv-loop net places values processors slots panel₀ signals a₀ panel a = Fill
 abbrev μ-loop : tie.MeasureT-loop
 μ-loop net places values processors slots panel₀ signals a₀ panel a = panelLength - a
 
-signals-of-requires : tie.Need-signals-of-requires Inv-loop μ-loop
-signals-of-requires c κs = search needs
-
 loop-holds : tie.Need-loop-holds Inv-loop μ-loop
 loop-holds c = fill-starts _ _ _ (c .before .before .before .before .before .pre .1 .0 .3)
 
@@ -51,7 +48,7 @@ fill-panel-spec =
     (tie.spec
     Inv-loop
     μ-loop
-    signals-of-requires
+    (λ c κs. search needs)
     loop-holds
     panel-byte-requires
     slice-write-panel

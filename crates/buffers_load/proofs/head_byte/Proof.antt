@@ -4,38 +4,17 @@ use borrow.Author.Needs.{needs}
 use Rattle.buffers_load.proofs.head_byte.Statement.{statement}
 use Rattle.buffers_load.proofs.head_byte.Tie as tie
 
-cast-result : tie.Need-cast-result
-cast-result c = search needs
-
 returns : tie.Need-returns
 returns c = rw (c .if1 .taken)
-
-cast-result-2 : tie.Need-cast-result-2
-cast-result-2 c = search needs
 
 returns-2 : tie.Need-returns-2
 returns-2 c = rw (c .if2 .taken)
 
-cast-result-3 : tie.Need-cast-result-3
-cast-result-3 c = search needs
-
-returns-3 : tie.Need-returns-3
-returns-3 c = search needs
-
-cast-result-4 : tie.Need-cast-result-4
-cast-result-4 c = search needs
-
 returns-4 : tie.Need-returns-4
 returns-4 c = rw (c .if4 .taken)
 
-cast-result-5 : tie.Need-cast-result-5
-cast-result-5 c = search needs
-
 returns-5 : tie.Need-returns-5
 returns-5 c = rw (c .if5 .taken)
-
-returns-6 : tie.Need-returns-6
-returns-6 c = search needs
 
 returns-7 : tie.Need-returns-7
 returns-7 c =
@@ -46,15 +25,15 @@ pub head-byte-spec : {M : Type 1} → statement M
 head-byte-spec =
     tie.close
     (tie.spec
-    cast-result
+    (λ c. search needs)
     returns
-    cast-result-2
+    (λ c. search needs)
     returns-2
-    cast-result-3
-    returns-3
-    cast-result-4
+    (λ c. search needs)
+    (λ c. search needs)
+    (λ c. search needs)
     returns-4
-    cast-result-5
+    (λ c. search needs)
     returns-5
-    returns-6
+    (λ c. search needs)
     returns-7)

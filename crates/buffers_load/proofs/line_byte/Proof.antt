@@ -7,29 +7,11 @@ use borrow.Author.Needs.{needs}
 use Rattle.buffers_load.proofs.line_byte.Statement.{statement}
 use Rattle.buffers_load.proofs.line_byte.Tie as tie
 
-field-at-requires : tie.Need-field-at-requires
-field-at-requires c κs = search needs
-
-cast-result : tie.Need-cast-result
-cast-result c = search needs
-
 returns : tie.Need-returns
 returns c = let s = c .before .before .before in rw (c .before .if1 .taken, c .field-at .ensures, signal-low)
 
-field-at-requires-2 : tie.Need-field-at-requires-2
-field-at-requires-2 c κs = search needs
-
-cast-result-2 : tie.Need-cast-result-2
-cast-result-2 c = search needs
-
 returns-2 : tie.Need-returns-2
 returns-2 c = let s = c .before .before .before .before in rw (c .before .if2 .taken, c .field-at2 .ensures, signal-high)
-
-add-field-at : tie.Need-add-field-at
-add-field-at c = search needs
-
-field-at-requires-3 : tie.Need-field-at-requires-3
-field-at-requires-3 c κs = search needs
 
 cast-result-3 : tie.Need-cast-result-3
 cast-result-3 c =
@@ -48,13 +30,13 @@ pub line-byte-spec : {M : Type 1} → statement M
 line-byte-spec =
     tie.close
     (tie.spec
-    field-at-requires
-    cast-result
+    (λ c κs. search needs)
+    (λ c. search needs)
     returns
-    field-at-requires-2
-    cast-result-2
+    (λ c κs. search needs)
+    (λ c. search needs)
     returns-2
-    add-field-at
-    field-at-requires-3
+    (λ c. search needs)
+    (λ c κs. search needs)
     cast-result-3
     returns-3)

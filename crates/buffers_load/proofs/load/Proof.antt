@@ -5,15 +5,6 @@ use borrow.Author.Needs.{needs}
 use Rattle.buffers_load.proofs.load.Statement.{statement}
 use Rattle.buffers_load.proofs.load.Tie as tie
 
-slice-aggregate-load-values : tie.Need-slice-aggregate-load-values
-slice-aggregate-load-values c = search needs
-
-load-values-requires : tie.Need-load-values-requires
-load-values-requires c κs = search needs
-
-slice-aggregate-load-panel : tie.Need-slice-aggregate-load-panel
-slice-aggregate-load-panel c = search needs
-
 load-panel-requires : tie.Need-load-panel-requires
 load-panel-requires c κs =
     let s = c .before .before .before .before .before .before .before .before .before .before .before in
@@ -25,23 +16,11 @@ load-program-requires c κs =
     let s = c .before .before .before .before .before .before .before .before .before .before .before .before .before .before .before in
     (schedules _ _ (s .pre .0) (s .pre .1 .0), s .pre .1 .1 .1 .1)
 
-slice-aggregate-load-memory : tie.Need-slice-aggregate-load-memory
-slice-aggregate-load-memory c = search needs
-
 load-memory-requires : tie.Need-load-memory-requires
 load-memory-requires c κs =
     let s = c .before .before .before .before .before .before .before .before .before .before .before .before .before .before .before .before .before .before .before .before in
     let l = c .before .before .before .before .before .before .before .before .before .before .before .before .load-values .ensures in
     (schedules _ _ (s .pre .0) (s .pre .1 .0), (values-size (s .args .net .now) (s .args .stim .now) _ l, values-none (s .args .net .now) (s .args .stim .now) _ l, s .pre .1 .1 .1 .2))
-
-same-length : tie.Need-same-length
-same-length c = search needs
-
-same-length-2 : tie.Need-same-length-2
-same-length-2 c = search needs
-
-same-length-3 : tie.Need-same-length-3
-same-length-3 c = search needs
 
 returns : tie.Need-returns
 returns c =
@@ -56,14 +35,14 @@ pub load-spec : {M : Type 1} → statement M
 load-spec =
     tie.close
     (tie.spec
-    slice-aggregate-load-values
-    load-values-requires
-    slice-aggregate-load-panel
+    (λ c. search needs)
+    (λ c κs. search needs)
+    (λ c. search needs)
     load-panel-requires
     load-program-requires
-    slice-aggregate-load-memory
+    (λ c. search needs)
     load-memory-requires
-    same-length
-    same-length-2
-    same-length-3
+    (λ c. search needs)
+    (λ c. search needs)
+    (λ c. search needs)
     returns)

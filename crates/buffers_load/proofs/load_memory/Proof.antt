@@ -15,12 +15,6 @@ Inv-loop modfile values memory₀ processors slots a₀ memory a = Filled (λ a.
 abbrev μ-loop : tie.MeasureT-loop
 μ-loop modfile values memory₀ processors slots a₀ memory a = memoryLength - a
 
-processors-of-requires : tie.Need-processors-of-requires Inv-loop μ-loop
-processors-of-requires c κs = search needs
-
-slots-of-requires : tie.Need-slots-of-requires Inv-loop μ-loop
-slots-of-requires c κs = search needs
-
 loop-holds : tie.Need-loop-holds Inv-loop μ-loop
 loop-holds c = fill-starts _ _ _ (c .before .before .before .before .before .pre .1 .2)
 
@@ -54,8 +48,8 @@ load-memory-spec =
     (tie.spec
     Inv-loop
     μ-loop
-    processors-of-requires
-    slots-of-requires
+    (λ c κs. search needs)
+    (λ c κs. search needs)
     loop-holds
     memory-byte-requires
     slice-write-memory

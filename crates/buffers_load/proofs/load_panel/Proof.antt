@@ -7,20 +7,8 @@ use borrow.Author.Needs.{needs}
 use Rattle.buffers_load.proofs.load_panel.Statement.{statement}
 use Rattle.buffers_load.proofs.load_panel.Tie as tie
 
-slice-aggregate-load-places : tie.Need-slice-aggregate-load-places
-slice-aggregate-load-places c = search needs
-
 load-places-requires : tie.Need-load-places-requires
 load-places-requires c κs = (c .before .before .before .before .before .pre .1 .0, (search needs, λ s h. getD-replicate 4097 s 0 0 (omega arith)))
-
-processors-of-requires : tie.Need-processors-of-requires
-processors-of-requires c κs = search needs
-
-slots-of-requires : tie.Need-slots-of-requires
-slots-of-requires c κs = search needs
-
-slice-aggregate-fill-panel : tie.Need-slice-aggregate-fill-panel
-slice-aggregate-fill-panel c = search needs
 
 fill-panel-requires : tie.Need-fill-panel-requires
 fill-panel-requires c κs =
@@ -28,9 +16,6 @@ fill-panel-requires c κs =
     let slots = c .before .before .slots-of in
     let placed = placed-lines (s .pre .1 .0) _ _ (slots .ensures .0) (c .before .before .before .before .before .load-places .ensures) in
     (s .pre .0, ((c .before .before .before .processors-of .ensures .2, slots .ensures .1, slots .ensures .2, s .pre .1 .1 .1), (s .pre .1 .1 .0, placed)))
-
-same-length : tie.Need-same-length
-same-length c = search needs
 
 returns : tie.Need-returns
 returns c =
@@ -41,11 +26,11 @@ pub load-panel-spec : {M : Type 1} → statement M
 load-panel-spec =
     tie.close
     (tie.spec
-    slice-aggregate-load-places
+    (λ c. search needs)
     load-places-requires
-    processors-of-requires
-    slots-of-requires
-    slice-aggregate-fill-panel
+    (λ c κs. search needs)
+    (λ c κs. search needs)
+    (λ c. search needs)
     fill-panel-requires
-    same-length
+    (λ c. search needs)
     returns)

@@ -14,12 +14,6 @@ Inv-loop modfile places₀ lines k₀ places k = (lines ≡ modProcessors modfil
 abbrev μ-loop : tie.MeasureT-loop
 μ-loop modfile places₀ lines k₀ places k = lines - k
 
-processors-of-requires : tie.Need-processors-of-requires Inv-loop μ-loop
-processors-of-requires c κs = search needs
-
-slots-of-requires : tie.Need-slots-of-requires Inv-loop μ-loop
-slots-of-requires c κs = search needs
-
 mul-lines : tie.Need-mul-lines Inv-loop μ-loop
 mul-lines c =
     let s = c .before .before .before .before in
@@ -45,14 +39,8 @@ number-at-requires c κs =
     let h : c .before .loop .k < modProcessors (s .args .modfile .now) * modSlots (s .args .modfile .now) = omega (arith, c .before .loop .inv .0) in
     line-signal-field (s .pre .0) h
 
-cast-signal : tie.Need-cast-signal Inv-loop μ-loop
-cast-signal c = search needs
-
 cast-places : tie.Need-cast-places Inv-loop μ-loop
 cast-places c = omega (arith, c .before .before .loop .inv .0, few-lines (c .before .before .before .before .before .before .before .pre .0))
-
-mul-places : tie.Need-mul-places Inv-loop μ-loop
-mul-places c = search needs
 
 slice-write-places : tie.Need-slice-write-places Inv-loop μ-loop
 slice-write-places c =
@@ -63,9 +51,6 @@ slice-write-places c =
 
 add-k : tie.Need-add-k Inv-loop μ-loop
 add-k c = omega (arith, c .before .before .loop .inv .0, few-lines (c .before .before .before .before .before .before .before .pre .0))
-
-loop-less : tie.Need-loop-less Inv-loop μ-loop
-loop-less c = search needs
 
 loop-again : tie.Need-loop-again Inv-loop μ-loop
 loop-again c =
@@ -86,20 +71,20 @@ load-places-spec =
     (tie.spec
     Inv-loop
     μ-loop
-    processors-of-requires
-    slots-of-requires
+    (λ c κs. search needs)
+    (λ c κs. search needs)
     mul-lines
     loop-holds
     add-number-at
     mul-number-at
     add-number-at-2
     number-at-requires
-    cast-signal
+    (λ c. search needs)
     cast-places
-    mul-places
+    (λ c. search needs)
     slice-write-places
     add-k
-    loop-less
+    (λ c. search needs)
     loop-again
     same-length
     returns)

@@ -15,12 +15,6 @@ Inv-loop modfile program₀ processors slots a₀ program a = Filled (λ a. prog
 abbrev μ-loop : tie.MeasureT-loop
 μ-loop modfile program₀ processors slots a₀ program a = programLength - a
 
-processors-of-requires : tie.Need-processors-of-requires Inv-loop μ-loop
-processors-of-requires c κs = search needs
-
-slots-of-requires : tie.Need-slots-of-requires Inv-loop μ-loop
-slots-of-requires c κs = search needs
-
 loop-holds : tie.Need-loop-holds Inv-loop μ-loop
 loop-holds c = fill-starts _ _ _ (c .before .before .before .before .pre .1)
 
@@ -52,8 +46,8 @@ load-program-spec =
     (tie.spec
     Inv-loop
     μ-loop
-    processors-of-requires
-    slots-of-requires
+    (λ c κs. search needs)
+    (λ c κs. search needs)
     loop-holds
     program-byte-requires
     slice-write-program

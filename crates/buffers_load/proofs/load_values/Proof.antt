@@ -15,12 +15,6 @@ Inv-loop net stim values₀ cursor₀ values cursor = GivenTo net stim (cursor .
 abbrev μ-loop : tie.MeasureT-loop
 μ-loop net stim values₀ cursor₀ values cursor = stimCount stim - cursor .line
 
-signals-of-requires : tie.Need-signals-of-requires Inv-loop μ-loop
-signals-of-requires c κs = search needs
-
-mark-undefined-requires : tie.Need-mark-undefined-requires Inv-loop μ-loop
-mark-undefined-requires c κs = search needs
-
 loop-holds : tie.Need-loop-holds Inv-loop μ-loop
 loop-holds c =
     let s = c .before .before .before .before .before .before .before .before in
@@ -28,12 +22,6 @@ loop-holds c =
 
 next-requires : tie.Need-next-requires Inv-loop μ-loop
 next-requires c κs = line-right _ _ (c .before .before .before .before .before .before .before .before .before .pre .1 .0) _ (c .loop .inv .low)
-
-enum-known-time : tie.Need-enum-known-time Inv-loop μ-loop
-enum-known-time c = search needs
-
-enum-told : tie.Need-enum-told Inv-loop μ-loop
-enum-told c = search needs
 
 same-length : tie.Need-same-length Inv-loop μ-loop
 same-length c = c .before .before .before .loop .inv .size ∙ sym (c .before .before .before .before .before .before .before .before .before .before .before .before .pre .1 .1)
@@ -71,9 +59,6 @@ cast-values c =
     let g = gives (c .before) in
     omega (arith, g .value-is, line-value-few _ _ (s .pre .0) (s .pre .1 .0) _ (g .before-end))
 
-cast-values-2 : tie.Need-cast-values-2 Inv-loop μ-loop
-cast-values-2 c = search needs
-
 slice-write-values : tie.Need-slice-write-values Inv-loop μ-loop
 slice-write-values c =
     let s = c .before .before .before .before .before .before .before .before .before .before .before .before .before .before in
@@ -97,18 +82,18 @@ load-values-spec =
     (tie.spec
     Inv-loop
     μ-loop
-    signals-of-requires
-    mark-undefined-requires
+    (λ c κs. search needs)
+    (λ c κs. search needs)
     loop-holds
     next-requires
-    enum-known-time
-    enum-told
+    (λ c. search needs)
+    (λ c. search needs)
     same-length
     returns
     same-length-2
     returns-2
     cast-values
-    cast-values-2
+    (λ c. search needs)
     slice-write-values
     loop-less
     loop-again)

@@ -7,12 +7,6 @@ use borrow.Author.Needs.{needs}
 use Rattle.buffers_load.proofs.local_value.Statement.{statement}
 use Rattle.buffers_load.proofs.local_value.Tie as tie
 
-field-at-requires : tie.Need-field-at-requires
-field-at-requires c κs = search needs
-
-cast-result : tie.Need-cast-result
-cast-result c = search needs
-
 shared-slice-read-result : tie.Need-shared-slice-read-result
 shared-slice-read-result c =
     let s = c .before .before .before .before in
@@ -28,4 +22,4 @@ returns c =
 
 pub local-value-spec : {M : Type 1} → statement M
 local-value-spec =
-    tie.close (tie.spec field-at-requires cast-result shared-slice-read-result returns)
+    tie.close (tie.spec (λ c κs. search needs) (λ c. search needs) shared-slice-read-result returns)

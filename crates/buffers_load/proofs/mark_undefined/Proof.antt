@@ -18,9 +18,6 @@ abbrev μ-loop : tie.MeasureT-loop
 loop-holds : tie.Need-loop-holds Inv-loop μ-loop
 loop-holds c = fill-starts _ _ _ refl
 
-undefined-at-requires : tie.Need-undefined-at-requires Inv-loop μ-loop
-undefined-at-requires c κs = search needs
-
 slice-write-values : tie.Need-slice-write-values Inv-loop μ-loop
 slice-write-values c = omega (arith, c .before .before .loop .inv .size)
 
@@ -46,7 +43,7 @@ mark-undefined-spec =
     Inv-loop
     μ-loop
     loop-holds
-    undefined-at-requires
+    (λ c κs. search needs)
     slice-write-values
     add-s
     loop-less

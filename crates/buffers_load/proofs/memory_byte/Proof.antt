@@ -26,9 +26,6 @@ returns-2 c =
     let v = valueIn (s .args .values .now) in
     sym (byte-outside l v there (no-location (modProcessors l) (modSlots l) _ _ (omega (arith, s .pre .1 .0 .1))))
 
-local-value-requires : tie.Need-local-value-requires
-local-value-requires c κs = search needs
-
 returns-3 : tie.Need-returns-3
 returns-3 c =
     let s = c .before .before .before .before .before .before in
@@ -38,9 +35,6 @@ returns-3 c =
     let inside = is-within (modProcessors l) (modSlots l) (s .args .a / 1280) (s .args .a % 256) (omega (arith, s .pre .1 .0 .0)) (omega (arith, s .pre .1 .0 .1)) in
     rw (byte-local l v there inside (c .before .if3 .taken)) (c .local-value .ensures)
 
-sent-value-requires : tie.Need-sent-value-requires
-sent-value-requires c κs = search needs
-
 returns-4 : tie.Need-returns-4
 returns-4 c =
     let s = c .before .before .before .before .before .before .before in
@@ -49,9 +43,6 @@ returns-4 c =
     let v = valueIn (s .args .values .now) in
     let inside = is-within (modProcessors l) (modSlots l) (s .args .a / 1280) (s .args .a % 256) (omega (arith, s .pre .1 .0 .0)) (omega (arith, s .pre .1 .0 .1)) in
     rw (byte-sent-earlier l v there inside (c .before .if4 .taken)) (c .sent-value .ensures)
-
-sent-value-requires-2 : tie.Need-sent-value-requires-2
-sent-value-requires-2 c κs = search needs
 
 returns-5 : tie.Need-returns-5
 returns-5 c =
@@ -77,10 +68,10 @@ memory-byte-spec =
     (tie.spec
     returns
     returns-2
-    local-value-requires
+    (λ c κs. search needs)
     returns-3
-    sent-value-requires
+    (λ c κs. search needs)
     returns-4
-    sent-value-requires-2
+    (λ c κs. search needs)
     returns-5
     returns-6)

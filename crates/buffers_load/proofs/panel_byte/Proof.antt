@@ -26,18 +26,6 @@ returns-2 c =
     let s = c .before .before .before .before .before in
     sym (panel-above (s .args .net .now) (s .args .processors) (s .args .slots) (valueIn (s .args .places .now)) (valueIn (s .args .values .now)) (s .args .a % 10) (s .args .a / 10) (omega (arith, s .pre .1 .0 .0)))
 
-shared-slice-read-signal-byte : tie.Need-shared-slice-read-signal-byte
-shared-slice-read-signal-byte c = search needs
-
-mul-line-index : tie.Need-mul-line-index
-mul-line-index c = search needs
-
-shared-slice-read-line-index : tie.Need-shared-slice-read-line-index
-shared-slice-read-line-index c = search needs
-
-line-index-requires : tie.Need-line-index-requires
-line-index-requires c κs = search needs
-
 signal-byte-requires : tie.Need-signal-byte-requires
 signal-byte-requires c κs =
     let s = c .before .before .before .before .before .before .before .before in
@@ -58,9 +46,9 @@ panel-byte-spec =
     head-byte-requires
     returns
     returns-2
-    shared-slice-read-signal-byte
-    mul-line-index
-    shared-slice-read-line-index
-    line-index-requires
+    (λ c. search needs)
+    (λ c. search needs)
+    (λ c. search needs)
+    (λ c κs. search needs)
     signal-byte-requires
     returns-3)

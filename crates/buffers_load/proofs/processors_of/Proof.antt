@@ -7,11 +7,8 @@ use Rattle.buffers_load.proofs.processors_of.Tie as tie
 number-at-requires : tie.Need-number-at-requires
 number-at-requires c κs = processors-field (c .before .pre)
 
-cast-result : tie.Need-cast-result
-cast-result c = search needs
-
 returns : tie.Need-returns
 returns c = (c .number-at .ensures, omega (arith, c .number-at .ensures, processors-range (c .before .before .pre)), omega (arith, c .number-at .ensures, processors-range (c .before .before .pre)))
 
 pub processors-of-spec : {M : Type 1} → statement M
-processors-of-spec = tie.close (tie.spec number-at-requires cast-result returns)
+processors-of-spec = tie.close (tie.spec number-at-requires (λ c. search needs) returns)

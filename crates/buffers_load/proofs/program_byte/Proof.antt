@@ -20,9 +20,6 @@ returns-2 c =
     let l = s .args .modfile .now in
     sym (byte-without l _ _ _ (no-location (modProcessors l) (modSlots l) (s .args .a / 13 % 16) (s .args .a / 13 / 16) (omega (arith, s .pre .1 .1))))
 
-line-byte-requires : tie.Need-line-byte-requires
-line-byte-requires c κs = search needs
-
 returns-3 : tie.Need-returns-3
 returns-3 c =
     let s = c .before .before .before .before in
@@ -32,4 +29,4 @@ returns-3 c =
     rw (byte-within l p i (s .args .a % 13) (omega (arith, s .pre .1 .0)) (omega (arith, s .pre .1 .1))) (c .line-byte .ensures)
 
 pub program-byte-spec : {M : Type 1} → statement M
-program-byte-spec = tie.close (tie.spec returns returns-2 line-byte-requires returns-3)
+program-byte-spec = tie.close (tie.spec returns returns-2 (λ c κs. search needs) returns-3)

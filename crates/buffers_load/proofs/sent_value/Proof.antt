@@ -9,12 +9,6 @@ use borrow.Author.Needs.{needs}
 use Rattle.buffers_load.proofs.sent_value.Statement.{statement}
 use Rattle.buffers_load.proofs.sent_value.Tie as tie
 
-field-at-requires : tie.Need-field-at-requires
-field-at-requires c κs = search needs
-
-cast-sender : tie.Need-cast-sender
-cast-sender c = search needs
-
 returns : tie.Need-returns
 returns c =
     let s = c .before .before .before .before in
@@ -26,9 +20,6 @@ field-at-requires-2 c κs =
     let low : s .args .slot < modSlots (s .args .modfile .now) = omega (arith, s .pre .1 .0 .0, s .pre .1 .0 .2) in
     let sender = sender-below (s .pre .0) (c .before .field-at .ensures) (s .pre .1 .0 .1) low (c .if1 .left) in
     (s .pre .0, (s .pre .1 .0 .0, sender, s .pre .1 .0 .2, omega arith))
-
-cast-location : tie.Need-cast-location
-cast-location c = search needs
 
 local-value-requires : tie.Need-local-value-requires
 local-value-requires c κs =
@@ -47,10 +38,10 @@ pub sent-value-spec : {M : Type 1} → statement M
 sent-value-spec =
     tie.close
     (tie.spec
-    field-at-requires
-    cast-sender
+    (λ c κs. search needs)
+    (λ c. search needs)
     returns
     field-at-requires-2
-    cast-location
+    (λ c. search needs)
     local-value-requires
     returns-2)

@@ -23,12 +23,6 @@ returns c = let s = c .before .before .before in rw (c .before .if1 .taken) (c .
 mul-number-at-2 : tie.Need-mul-number-at-2
 mul-number-at-2 c = let s = c .before .before .before in omega (arith, net-size 4096 _ (s .pre .0), s .pre .1 .1)
 
-add-number-at : tie.Need-add-number-at
-add-number-at c = search needs
-
-mul-number-at-3 : tie.Need-mul-number-at-3
-mul-number-at-3 c = search needs
-
 add-number-at-2 : tie.Need-add-number-at-2
 add-number-at-2 c = let s = c .before .before .before in omega (arith, net-size 4096 _ (s .pre .0), s .pre .1 .1)
 
@@ -47,20 +41,11 @@ returns-2 c =
     let low : 1 ≤ s .args .column = omega (arith, c .before .before .if1 .left) in
     c .number-at2 .ensures ∙ code-byte (s .args .net .now) (s .args .signal) _ _ _ (s .args .column) low (c .before .if2 .taken)
 
-returns-3 : tie.Need-returns-3
-returns-3 c = search needs
-
-div-result : tie.Need-div-result
-div-result c = search needs
-
 cast-result-3 : tie.Need-cast-result-3
 cast-result-3 c = let s = c .before .before .before .before .before in omega (arith, line-processor (s .args .line) (s .args .slots) (s .pre .1 .2) (s .pre .1 .4))
 
 returns-4 : tie.Need-returns-4
 returns-4 c = rw (c .if4 .taken)
-
-rem-result : tie.Need-rem-result
-rem-result c = search needs
 
 cast-result-4 : tie.Need-cast-result-4
 cast-result-4 c = let s = c .before .before .before .before .before in omega (arith, line-slot (s .args .line) (s .args .slots) (s .pre .1 .2), s .pre .1 .3)
@@ -80,16 +65,16 @@ signal-byte-spec =
     cast-result
     returns
     mul-number-at-2
-    add-number-at
-    mul-number-at-3
+    (λ c. search needs)
+    (λ c. search needs)
     add-number-at-2
     number-at-requires-2
     cast-result-2
     returns-2
-    returns-3
-    div-result
+    (λ c. search needs)
+    (λ c. search needs)
     cast-result-3
     returns-4
-    rem-result
+    (λ c. search needs)
     cast-result-4
     returns-5)

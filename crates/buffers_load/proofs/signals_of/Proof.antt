@@ -8,11 +8,8 @@ use Rattle.buffers_load.proofs.signals_of.Tie as tie
 number-at-requires : tie.Need-number-at-requires
 number-at-requires c κs = size-field _ (c .before .pre)
 
-cast-result : tie.Need-cast-result
-cast-result c = search needs
-
 returns : tie.Need-returns
 returns c = (c .number-at .ensures, omega (arith, c .number-at .ensures, net-size 4096 _ (c .before .before .pre)), omega (arith, c .number-at .ensures, net-size 4096 _ (c .before .before .pre)))
 
 pub signals-of-spec : {M : Type 1} → statement M
-signals-of-spec = tie.close (tie.spec number-at-requires cast-result returns)
+signals-of-spec = tie.close (tie.spec number-at-requires (λ c. search needs) returns)

@@ -7,11 +7,8 @@ use Rattle.buffers_load.proofs.slots_of.Tie as tie
 number-at-requires : tie.Need-number-at-requires
 number-at-requires c κs = slots-field (c .before .pre)
 
-cast-result : tie.Need-cast-result
-cast-result c = search needs
-
 returns : tie.Need-returns
 returns c = (c .number-at .ensures, omega (arith, c .number-at .ensures, slots-range (c .before .before .pre)), omega (arith, c .number-at .ensures, slots-range (c .before .before .pre)))
 
 pub slots-of-spec : {M : Type 1} → statement M
-slots-of-spec = tie.close (tie.spec number-at-requires cast-result returns)
+slots-of-spec = tie.close (tie.spec number-at-requires (λ c. search needs) returns)

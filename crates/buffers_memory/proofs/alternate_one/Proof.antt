@@ -22,24 +22,12 @@ loop-holds c =
     let s = c .before in
     (omega arith, s .pre .0, none-below (s .args .processor) (alternate (memoryOf (s .args .memory .now))) (s .args .memory .now) (s .pre .0))
 
-exchange-requires : tie.Need-exchange-requires Inv-loop μ-loop
-exchange-requires c κs = search needs
-
-add-k : tie.Need-add-k Inv-loop μ-loop
-add-k c = search needs
-
-loop-less : tie.Need-loop-less Inv-loop μ-loop
-loop-less c = search needs
-
 loop-again : tie.Need-loop-again Inv-loop μ-loop
 loop-again c =
     let s = c .before .before .before .before .before .before .before in
     let i = c .before .before .before .before .before .loop .inv in
     let next = location-alternated (s .args .processor) (c .before .before .before .before .before .loop .k) (s .args .memory .now) (c .before .before .before .before .before .loop .memory) _ (i .2) (c .before .before .exchange .ensures) in
     (omega arith, ap length next ∙ written-length _ _ _, next)
-
-same-length : tie.Need-same-length Inv-loop μ-loop
-same-length c = search needs
 
 returns : tie.Need-returns Inv-loop μ-loop
 returns c =
@@ -54,9 +42,9 @@ alternate-one-spec =
     Inv-loop
     μ-loop
     loop-holds
-    exchange-requires
-    add-k
-    loop-less
+    (λ c κs. search needs)
+    (λ c. search needs)
+    (λ c. search needs)
     loop-again
-    same-length
+    (λ c. search needs)
     returns)

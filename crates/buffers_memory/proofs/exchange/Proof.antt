@@ -4,24 +4,6 @@ use borrow.Author.Needs.{needs}
 use Rattle.buffers_memory.proofs.exchange.Statement.{statement}
 use Rattle.buffers_memory.proofs.exchange.Tie as tie
 
-mul-at : tie.Need-mul-at
-mul-at c = search needs
-
-add-at : tie.Need-add-at
-add-at c = search needs
-
-swap-requires : tie.Need-swap-requires
-swap-requires c κs = search needs
-
-add-swap : tie.Need-add-swap
-add-swap c = search needs
-
-swap-requires-2 : tie.Need-swap-requires-2
-swap-requires-2 c κs = search needs
-
-same-length : tie.Need-same-length
-same-length c = search needs
-
 returns : tie.Need-returns
 returns c =
     let s = c .before .before .before .before .before .before .before .before .before in
@@ -29,4 +11,4 @@ returns c =
 
 pub exchange-spec : {M : Type 1} → statement M
 exchange-spec =
-    tie.close (tie.spec mul-at add-at swap-requires add-swap swap-requires-2 same-length returns)
+    tie.close (tie.spec (λ c. search needs) (λ c. search needs) (λ c κs. search needs) (λ c. search needs) (λ c κs. search needs) (λ c. search needs) returns)

@@ -5,18 +5,9 @@ use borrow.Author.Needs.{needs}
 use Rattle.buffers_range.proofs.all_translations.Statement.{statement}
 use Rattle.buffers_range.proofs.all_translations.Tie as tie
 
-largest-requires : tie.Need-largest-requires
-largest-requires c κs = search needs
-
-widened-requires : tie.Need-widened-requires
-widened-requires c κs = search needs
-
-is-translation-requires : tie.Need-is-translation-requires
-is-translation-requires c κs = search needs
-
 returns : tie.Need-returns
 returns c = c .is-translation .ensures ∙ ap isTranslation (c .before .widened .ensures .0 ∙ c .before .before .largest .ensures) ∙ largest-translations _ _ _
 
 pub all-translations-spec : {M : Type 1} → statement M
 all-translations-spec =
-    tie.close (tie.spec largest-requires widened-requires is-translation-requires returns)
+    tie.close (tie.spec (λ c κs. search needs) (λ c κs. search needs) (λ c κs. search needs) returns)

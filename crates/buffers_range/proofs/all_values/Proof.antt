@@ -6,11 +6,8 @@ use borrow.Author.Needs.{needs}
 use Rattle.buffers_range.proofs.all_values.Statement.{statement}
 use Rattle.buffers_range.proofs.all_values.Tie as tie
 
-largest-requires : tie.Need-largest-requires
-largest-requires c κs = search needs
-
 returns : tie.Need-returns
 returns c = ap (λ (x : ℕ). leb x 3) (c .largest .ensures) ∙ largest-limit _ _ _ 3
 
 pub all-values-spec : {M : Type 1} → statement M
-all-values-spec = tie.close (tie.spec largest-requires returns)
+all-values-spec = tie.close (tie.spec (λ c κs. search needs) returns)

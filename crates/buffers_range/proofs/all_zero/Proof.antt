@@ -6,11 +6,8 @@ use borrow.Author.Needs.{needs}
 use Rattle.buffers_range.proofs.all_zero.Statement.{statement}
 use Rattle.buffers_range.proofs.all_zero.Tie as tie
 
-largest-requires : tie.Need-largest-requires
-largest-requires c κs = search needs
-
 returns : tie.Need-returns
 returns c = ap (λ (x : ℕ). eqb x 0) (c .largest .ensures) ∙ largest-zeros _ _ _
 
 pub all-zero-spec : {M : Type 1} → statement M
-all-zero-spec = tie.close (tie.spec largest-requires returns)
+all-zero-spec = tie.close (tie.spec (λ c κs. search needs) returns)

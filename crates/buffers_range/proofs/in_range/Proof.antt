@@ -6,9 +6,6 @@ use borrow.Author.Needs.{needs}
 use Rattle.buffers_range.proofs.in_range.Statement.{statement}
 use Rattle.buffers_range.proofs.in_range.Tie as tie
 
-panel-right-requires : tie.Need-panel-right-requires
-panel-right-requires c κs = search needs
-
 returns : tie.Need-returns
 unfolding ranged
 returns c =
@@ -53,7 +50,7 @@ pub in-range-spec : {M : Type 1} → statement M
 in-range-spec =
     tie.close
     (tie.spec
-    panel-right-requires
+    (λ c κs. search needs)
     returns
     program-right-requires
     returns-2

@@ -18,21 +18,6 @@ loop-holds : tie.Need-loop-holds Inv-loop μ-loop
 unfolding largestOf
 loop-holds c = search needs
 
-add-larger-of : tie.Need-add-larger-of Inv-loop μ-loop
-add-larger-of c = search needs
-
-shared-slice-read-larger-of : tie.Need-shared-slice-read-larger-of Inv-loop μ-loop
-shared-slice-read-larger-of c = search needs
-
-larger-of-requires : tie.Need-larger-of-requires Inv-loop μ-loop
-larger-of-requires c κs = search needs
-
-add-k : tie.Need-add-k Inv-loop μ-loop
-add-k c = search needs
-
-loop-less : tie.Need-loop-less Inv-loop μ-loop
-loop-less c = search needs
-
 loop-again : tie.Need-loop-again Inv-loop μ-loop
 unfolding largestOf
 loop-again c = (omega arith, rw add-one (cc))
@@ -47,10 +32,10 @@ largest-spec =
     Inv-loop
     μ-loop
     loop-holds
-    add-larger-of
-    shared-slice-read-larger-of
-    larger-of-requires
-    add-k
-    loop-less
+    (λ c. search needs)
+    (λ c. search needs)
+    (λ c κs. search needs)
+    (λ c. search needs)
+    (λ c. search needs)
     loop-again
     returns)

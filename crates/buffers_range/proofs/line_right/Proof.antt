@@ -7,27 +7,12 @@ use borrow.Author.Needs.{needs}
 use Rattle.buffers_range.proofs.line_right.Statement.{statement}
 use Rattle.buffers_range.proofs.line_right.Tie as tie
 
-word-at-requires : tie.Need-word-at-requires
-word-at-requires c κs = search needs
-
 returns : tie.Need-returns
 unfolding lineAt
 returns c =
     let word-at = c .before .word-at in
     let if1 = c .if1 in
     sym (most-stops _ _ _ _ (word-at .ensures) (if1 .taken))
-
-operand-faults-requires : tie.Need-operand-faults-requires
-operand-faults-requires c κs = search needs
-
-add-pair-faults : tie.Need-add-pair-faults
-add-pair-faults c = search needs
-
-pair-faults-requires : tie.Need-pair-faults-requires
-pair-faults-requires c κs = search needs
-
-add-faults : tie.Need-add-faults
-add-faults c = search needs
 
 returns-2 : tie.Need-returns-2
 unfolding lineAt
@@ -38,21 +23,6 @@ returns-2 c =
     let pair-faults = c .before .pair-faults in
     let if2 = c .if2 in
     sym (most-goes-on _ _ _ _ (word-at .ensures) (if1 .left) ∙ faults-stop _ _ _ _ _ (operand-faults .ensures .0) (pair-faults .ensures .0) (if2 .taken))
-
-add-widened : tie.Need-add-widened
-add-widened c = search needs
-
-shared-slice-read-widened : tie.Need-shared-slice-read-widened
-shared-slice-read-widened c = search needs
-
-widened-requires : tie.Need-widened-requires
-widened-requires c κs = search needs
-
-widened-requires-2 : tie.Need-widened-requires-2
-widened-requires-2 c κs = search needs
-
-sender-right-requires : tie.Need-sender-right-requires
-sender-right-requires c κs = search needs
 
 returns-3 : tie.Need-returns-3
 unfolding lineAt
@@ -71,16 +41,16 @@ pub line-right-spec : {M : Type 1} → statement M
 line-right-spec =
     tie.close
     (tie.spec
-    word-at-requires
+    (λ c κs. search needs)
     returns
-    operand-faults-requires
-    add-pair-faults
-    pair-faults-requires
-    add-faults
+    (λ c κs. search needs)
+    (λ c. search needs)
+    (λ c κs. search needs)
+    (λ c. search needs)
     returns-2
-    add-widened
-    shared-slice-read-widened
-    widened-requires
-    widened-requires-2
-    sender-right-requires
+    (λ c. search needs)
+    (λ c. search needs)
+    (λ c κs. search needs)
+    (λ c κs. search needs)
+    (λ c κs. search needs)
     returns-3)

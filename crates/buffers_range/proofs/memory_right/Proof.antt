@@ -4,15 +4,6 @@ use borrow.Author.Needs.{needs}
 use Rattle.buffers_range.proofs.memory_right.Statement.{statement}
 use Rattle.buffers_range.proofs.memory_right.Tie as tie
 
-shared-slice-read-parts-right : tie.Need-shared-slice-read-parts-right
-shared-slice-read-parts-right c = search needs
-
-word-at-requires : tie.Need-word-at-requires
-word-at-requires c κs = search needs
-
-parts-right-requires : tie.Need-parts-right-requires
-parts-right-requires c κs = search needs
-
 returns : tie.Need-returns
 returns c =
     let s = c .before .before .before .before .before in
@@ -23,4 +14,4 @@ returns c =
 pub memory-right-spec : {M : Type 1} → statement M
 memory-right-spec =
     tie.close
-    (tie.spec shared-slice-read-parts-right word-at-requires parts-right-requires returns)
+    (tie.spec (λ c. search needs) (λ c κs. search needs) (λ c κs. search needs) returns)

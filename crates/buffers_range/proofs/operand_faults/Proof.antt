@@ -5,39 +5,6 @@ use native.Mathlib.Omega.{arith}
 use Rattle.buffers_range.proofs.operand_faults.Statement.{statement}
 use Rattle.buffers_range.proofs.operand_faults.Tie as tie
 
-add-pair-faults : tie.Need-add-pair-faults
-add-pair-faults c = search needs
-
-pair-faults-requires : tie.Need-pair-faults-requires
-pair-faults-requires c κs = search needs
-
-add-pair-faults-2 : tie.Need-add-pair-faults-2
-add-pair-faults-2 c = search needs
-
-pair-faults-requires-2 : tie.Need-pair-faults-requires-2
-pair-faults-requires-2 c κs = search needs
-
-add-pair-faults-3 : tie.Need-add-pair-faults-3
-add-pair-faults-3 c = search needs
-
-pair-faults-requires-3 : tie.Need-pair-faults-requires-3
-pair-faults-requires-3 c κs = search needs
-
-add-pair-faults-4 : tie.Need-add-pair-faults-4
-add-pair-faults-4 c = search needs
-
-pair-faults-requires-4 : tie.Need-pair-faults-requires-4
-pair-faults-requires-4 c κs = search needs
-
-add-result : tie.Need-add-result
-add-result c = search needs
-
-add-result-2 : tie.Need-add-result-2
-add-result-2 c = search needs
-
-add-result-3 : tie.Need-add-result-3
-add-result-3 c = search needs
-
 returns : tie.Need-returns
 unfolding operandsAt
 returns c =
@@ -51,15 +18,15 @@ pub operand-faults-spec : {M : Type 1} → statement M
 operand-faults-spec =
     tie.close
     (tie.spec
-    add-pair-faults
-    pair-faults-requires
-    add-pair-faults-2
-    pair-faults-requires-2
-    add-pair-faults-3
-    pair-faults-requires-3
-    add-pair-faults-4
-    pair-faults-requires-4
-    add-result
-    add-result-2
-    add-result-3
+    (λ c. search needs)
+    (λ c κs. search needs)
+    (λ c. search needs)
+    (λ c κs. search needs)
+    (λ c. search needs)
+    (λ c κs. search needs)
+    (λ c. search needs)
+    (λ c κs. search needs)
+    (λ c. search needs)
+    (λ c. search needs)
+    (λ c. search needs)
     returns)

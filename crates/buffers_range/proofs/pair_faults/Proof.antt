@@ -4,39 +4,6 @@ use native.Mathlib.Omega.{arith}
 use Rattle.buffers_range.proofs.pair_faults.Statement.{statement}
 use Rattle.buffers_range.proofs.pair_faults.Tie as tie
 
-shared-slice-read-widened : tie.Need-shared-slice-read-widened
-shared-slice-read-widened c = search needs
-
-widened-requires : tie.Need-widened-requires
-widened-requires c κs = search needs
-
-add-reaches : tie.Need-add-reaches
-add-reaches c = search needs
-
-reaches-requires : tie.Need-reaches-requires
-reaches-requires c κs = search needs
-
-add-widened : tie.Need-add-widened
-add-widened c = search needs
-
-shared-slice-read-widened-2 : tie.Need-shared-slice-read-widened-2
-shared-slice-read-widened-2 c = search needs
-
-widened-requires-2 : tie.Need-widened-requires-2
-widened-requires-2 c κs = search needs
-
-reaches-requires-2 : tie.Need-reaches-requires-2
-reaches-requires-2 c κs = search needs
-
-word-at-requires : tie.Need-word-at-requires
-word-at-requires c κs = search needs
-
-equals-requires : tie.Need-equals-requires
-equals-requires c κs = search needs
-
-add-result : tie.Need-add-result
-add-result c = search needs
-
 sub-result : tie.Need-sub-result
 sub-result c =
     let s = c .before .before .before .before .before .before .before .before .before in
@@ -63,16 +30,16 @@ pub pair-faults-spec : {M : Type 1} → statement M
 pair-faults-spec =
     tie.close
     (tie.spec
-    shared-slice-read-widened
-    widened-requires
-    add-reaches
-    reaches-requires
-    add-widened
-    shared-slice-read-widened-2
-    widened-requires-2
-    reaches-requires-2
-    word-at-requires
-    equals-requires
-    add-result
+    (λ c. search needs)
+    (λ c κs. search needs)
+    (λ c. search needs)
+    (λ c κs. search needs)
+    (λ c. search needs)
+    (λ c. search needs)
+    (λ c κs. search needs)
+    (λ c κs. search needs)
+    (λ c κs. search needs)
+    (λ c κs. search needs)
+    (λ c. search needs)
     sub-result
     returns)

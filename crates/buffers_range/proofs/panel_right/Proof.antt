@@ -19,21 +19,12 @@ Inv-loop panel signals k₀ k = (signals ≤ 4096) × (k ≤ signals) × (all k 
 abbrev μ-loop : tie.MeasureT-loop
 μ-loop panel signals k₀ k = signals - k
 
-head-right-requires : tie.Need-head-right-requires Inv-loop μ-loop
-head-right-requires c κs = search needs
-
 returns : tie.Need-returns Inv-loop μ-loop
 unfolding panelRanged
 returns c =
     let head-right = c .before .head-right in
     let if1 = c .if1 in
     sym (stops _ _ _ (head-right .ensures) (if1 .taken))
-
-word-at-requires : tie.Need-word-at-requires Inv-loop μ-loop
-word-at-requires c κs = search needs
-
-cast-signals : tie.Need-cast-signals Inv-loop μ-loop
-cast-signals c = search needs
 
 loop-holds : tie.Need-loop-holds Inv-loop μ-loop
 unfolding all
@@ -42,12 +33,6 @@ loop-holds c =
     let if1 = c .before .if1 in
     let word-at = c .word-at in
     let h = head-numbers _ (passes _ _ (head-right .ensures) (if1 .left)) in (omega (arith, h .signals-high, word-at .ensures), search needs, search needs)
-
-add-signal-right : tie.Need-add-signal-right Inv-loop μ-loop
-add-signal-right c = search needs
-
-signal-right-requires : tie.Need-signal-right-requires Inv-loop μ-loop
-signal-right-requires c κs = search needs
 
 returns-2 : tie.Need-returns-2 Inv-loop μ-loop
 returns-2 c =
@@ -59,33 +44,12 @@ returns-2 c =
     let if2 = c .if2 in
     sym (signals-stop _ _ _ (word-at .ensures) (passes _ _ (head-right .ensures) (if1 .left)) (loop-test .taken) (fails _ _ (signal-right .ensures) (if2 .taken)))
 
-add-k : tie.Need-add-k Inv-loop μ-loop
-add-k c = search needs
-
-loop-less : tie.Need-loop-less Inv-loop μ-loop
-loop-less c = search needs
-
 loop-again : tie.Need-loop-again Inv-loop μ-loop
 loop-again c =
     let loop = c .before .before .before .loop in
     let signal-right = c .before .signal-right in
     let if2 = c .if2 in
     (loop .inv .0, omega arith, all-more _ _ (loop .inv .2) (passes _ _ (signal-right .ensures) (if2 .left)))
-
-add-all-zero : tie.Need-add-all-zero Inv-loop μ-loop
-add-all-zero c = search needs
-
-mul-all-zero : tie.Need-mul-all-zero Inv-loop μ-loop
-mul-all-zero c = search needs
-
-sub-all-zero : tie.Need-sub-all-zero Inv-loop μ-loop
-sub-all-zero c = search needs
-
-mul-all-zero-2 : tie.Need-mul-all-zero-2 Inv-loop μ-loop
-mul-all-zero-2 c = search needs
-
-all-zero-requires : tie.Need-all-zero-requires Inv-loop μ-loop
-all-zero-requires c κs = search needs
 
 returns-3 : tie.Need-returns-3 Inv-loop μ-loop
 returns-3 c =
@@ -103,20 +67,20 @@ panel-right-spec =
     (tie.spec
     Inv-loop
     μ-loop
-    head-right-requires
+    (λ c κs. search needs)
     returns
-    word-at-requires
-    cast-signals
+    (λ c κs. search needs)
+    (λ c. search needs)
     loop-holds
-    add-signal-right
-    signal-right-requires
+    (λ c. search needs)
+    (λ c κs. search needs)
     returns-2
-    add-k
-    loop-less
+    (λ c. search needs)
+    (λ c. search needs)
     loop-again
-    add-all-zero
-    mul-all-zero
-    sub-all-zero
-    mul-all-zero-2
-    all-zero-requires
+    (λ c. search needs)
+    (λ c. search needs)
+    (λ c. search needs)
+    (λ c. search needs)
+    (λ c κs. search needs)
     returns-3)

@@ -5,24 +5,12 @@ use borrow.Author.Needs.{needs}
 use Rattle.buffers_range.proofs.part_right.Statement.{statement}
 use Rattle.buffers_range.proofs.part_right.Tie as tie
 
-all-values-requires : tie.Need-all-values-requires
-all-values-requires c κs = search needs
-
 returns : tie.Need-returns
 unfolding partAt
 returns c =
     let all-values = c .before .all-values in
     let if1 = c .if1 in
     sym (stops _ _ _ (all-values .ensures) (if1 .taken))
-
-add-all-zero : tie.Need-add-all-zero
-add-all-zero c = search needs
-
-sub-all-zero : tie.Need-sub-all-zero
-sub-all-zero c = search needs
-
-all-zero-requires : tie.Need-all-zero-requires
-all-zero-requires c κs = search needs
 
 returns-2 : tie.Need-returns-2
 unfolding partAt
@@ -35,4 +23,4 @@ returns-2 c =
 pub part-right-spec : {M : Type 1} → statement M
 part-right-spec =
     tie.close
-    (tie.spec all-values-requires returns add-all-zero sub-all-zero all-zero-requires returns-2)
+    (tie.spec (λ c κs. search needs) returns (λ c. search needs) (λ c. search needs) (λ c κs. search needs) returns-2)

@@ -21,15 +21,6 @@ loop-holds : tie.Need-loop-holds Inv-loop μ-loop
 unfolding all
 loop-holds c = search needs
 
-mul-part-right : tie.Need-mul-part-right Inv-loop μ-loop
-mul-part-right c = search needs
-
-values-in-requires : tie.Need-values-in-requires Inv-loop μ-loop
-values-in-requires c κs = search needs
-
-part-right-requires : tie.Need-part-right-requires Inv-loop μ-loop
-part-right-requires c κs = search needs
-
 returns : tie.Need-returns Inv-loop μ-loop
 unfolding partsAt
 returns c =
@@ -38,12 +29,6 @@ returns c =
     let part-right = c .before .part-right in
     let if1 = c .if1 in
     sym (all-fails _ 80 _ (loop-test .taken) (rw (← values-in .ensures .0) (fails _ _ (part-right .ensures) (if1 .taken))))
-
-add-j : tie.Need-add-j Inv-loop μ-loop
-add-j c = search needs
-
-loop-less : tie.Need-loop-less Inv-loop μ-loop
-loop-less c = search needs
 
 loop-again : tie.Need-loop-again Inv-loop μ-loop
 loop-again c =
@@ -67,11 +52,11 @@ parts-right-spec =
     Inv-loop
     μ-loop
     loop-holds
-    mul-part-right
-    values-in-requires
-    part-right-requires
+    (λ c. search needs)
+    (λ c κs. search needs)
+    (λ c κs. search needs)
     returns
-    add-j
-    loop-less
+    (λ c. search needs)
+    (λ c. search needs)
     loop-again
     returns-2)

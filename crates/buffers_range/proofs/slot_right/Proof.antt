@@ -17,21 +17,9 @@ Inv-loop program slot signals processors slots at lines p₀ p = (p ≤ lines) �
 abbrev μ-loop : tie.MeasureT-loop
 μ-loop program slot signals processors slots at lines p₀ p = lines - p
 
-mul-at : tie.Need-mul-at Inv-loop μ-loop
-mul-at c = search needs
-
 loop-holds : tie.Need-loop-holds Inv-loop μ-loop
 unfolding all
 loop-holds c = search needs
-
-mul-line-right : tie.Need-mul-line-right Inv-loop μ-loop
-mul-line-right c = search needs
-
-add-line-right : tie.Need-add-line-right Inv-loop μ-loop
-add-line-right c = search needs
-
-line-right-requires : tie.Need-line-right-requires Inv-loop μ-loop
-line-right-requires c κs = search needs
 
 returns : tie.Need-returns Inv-loop μ-loop
 unfolding slotAt
@@ -41,33 +29,12 @@ returns c =
     let if1 = c .if1 in
     sym (no _ _ (all-fails _ _ _ (loop-test .taken) (fails _ _ (line-right .ensures) (if1 .taken))))
 
-add-p : tie.Need-add-p Inv-loop μ-loop
-add-p c = search needs
-
-loop-less : tie.Need-loop-less Inv-loop μ-loop
-loop-less c = search needs
-
 loop-again : tie.Need-loop-again Inv-loop μ-loop
 loop-again c =
     let loop = c .before .before .before .loop in
     let line-right = c .before .line-right in
     let if1 = c .if1 in
     (omega arith, all-more _ _ (loop .inv .1) (passes _ _ (line-right .ensures) (if1 .left)))
-
-mul-all-zero : tie.Need-mul-all-zero Inv-loop μ-loop
-mul-all-zero c = search needs
-
-add-all-zero : tie.Need-add-all-zero Inv-loop μ-loop
-add-all-zero c = search needs
-
-sub-all-zero : tie.Need-sub-all-zero Inv-loop μ-loop
-sub-all-zero c = search needs
-
-mul-all-zero-2 : tie.Need-mul-all-zero-2 Inv-loop μ-loop
-mul-all-zero-2 c = search needs
-
-all-zero-requires : tie.Need-all-zero-requires Inv-loop μ-loop
-all-zero-requires c κs = search needs
 
 returns-2 : tie.Need-returns-2 Inv-loop μ-loop
 unfolding slotAt
@@ -83,18 +50,18 @@ slot-right-spec =
     (tie.spec
     Inv-loop
     μ-loop
-    mul-at
+    (λ c. search needs)
     loop-holds
-    mul-line-right
-    add-line-right
-    line-right-requires
+    (λ c. search needs)
+    (λ c. search needs)
+    (λ c κs. search needs)
     returns
-    add-p
-    loop-less
+    (λ c. search needs)
+    (λ c. search needs)
     loop-again
-    mul-all-zero
-    add-all-zero
-    sub-all-zero
-    mul-all-zero-2
-    all-zero-requires
+    (λ c. search needs)
+    (λ c. search needs)
+    (λ c. search needs)
+    (λ c. search needs)
+    (λ c κs. search needs)
     returns-2)

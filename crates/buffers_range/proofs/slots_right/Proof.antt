@@ -21,9 +21,6 @@ loop-holds : tie.Need-loop-holds Inv-loop μ-loop
 unfolding all
 loop-holds c = search needs
 
-slot-right-requires : tie.Need-slot-right-requires Inv-loop μ-loop
-slot-right-requires c κs = search needs
-
 returns : tie.Need-returns Inv-loop μ-loop
 unfolding slotsAt
 returns c =
@@ -32,30 +29,12 @@ returns c =
     let if1 = c .if1 in
     sym (no _ _ (all-fails _ _ _ (loop-test .taken) (fails _ _ (slot-right .ensures) (if1 .taken))))
 
-add-i : tie.Need-add-i Inv-loop μ-loop
-add-i c = search needs
-
-loop-less : tie.Need-loop-less Inv-loop μ-loop
-loop-less c = search needs
-
 loop-again : tie.Need-loop-again Inv-loop μ-loop
 loop-again c =
     let loop = c .before .before .before .loop in
     let slot-right = c .before .slot-right in
     let if1 = c .if1 in
     (omega arith, all-more _ _ (loop .inv .1) (passes _ _ (slot-right .ensures) (if1 .left)))
-
-mul-all-zero : tie.Need-mul-all-zero Inv-loop μ-loop
-mul-all-zero c = search needs
-
-sub-all-zero : tie.Need-sub-all-zero Inv-loop μ-loop
-sub-all-zero c = search needs
-
-mul-all-zero-2 : tie.Need-mul-all-zero-2 Inv-loop μ-loop
-mul-all-zero-2 c = search needs
-
-all-zero-requires : tie.Need-all-zero-requires Inv-loop μ-loop
-all-zero-requires c κs = search needs
 
 returns-2 : tie.Need-returns-2 Inv-loop μ-loop
 unfolding slotsAt
@@ -72,13 +51,13 @@ slots-right-spec =
     Inv-loop
     μ-loop
     loop-holds
-    slot-right-requires
+    (λ c κs. search needs)
     returns
-    add-i
-    loop-less
+    (λ c. search needs)
+    (λ c. search needs)
     loop-again
-    mul-all-zero
-    sub-all-zero
-    mul-all-zero-2
-    all-zero-requires
+    (λ c. search needs)
+    (λ c. search needs)
+    (λ c. search needs)
+    (λ c κs. search needs)
     returns-2)

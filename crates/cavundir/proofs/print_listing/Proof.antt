@@ -22,30 +22,6 @@ abbrev μ-loop : tie.MeasureT-loop
 μ-loop net modfile stim lines parts₀ failed₀ panel₀ program memory₀ shown₀ piece₀ lister₀ count counter₀ parts failed panel memory shown piece lister counter =
     count - counter
 
-panel-buffer-requires : tie.Need-panel-buffer-requires Inv-loop μ-loop
-panel-buffer-requires c κs = search needs
-
-program-buffer-requires : tie.Need-program-buffer-requires Inv-loop μ-loop
-program-buffer-requires c κs = search needs
-
-memory-buffer-requires : tie.Need-memory-buffer-requires Inv-loop μ-loop
-memory-buffer-requires c κs = search needs
-
-piece-buffer-requires : tie.Need-piece-buffer-requires Inv-loop μ-loop
-piece-buffer-requires c κs = search needs
-
-slice-aggregate-open : tie.Need-slice-aggregate-open Inv-loop μ-loop
-slice-aggregate-open c = search needs
-
-slice-aggregate-open-2 : tie.Need-slice-aggregate-open-2 Inv-loop μ-loop
-slice-aggregate-open-2 c = search needs
-
-slice-aggregate-open-3 : tie.Need-slice-aggregate-open-3 Inv-loop μ-loop
-slice-aggregate-open-3 c = search needs
-
-slice-aggregate-open-4 : tie.Need-slice-aggregate-open-4 Inv-loop μ-loop
-slice-aggregate-open-4 c = search needs
-
 open-requires : tie.Need-open-requires Inv-loop μ-loop
 open-requires c κs =
     let buffers = c .before .before .before .before in
@@ -54,9 +30,6 @@ open-requires c κs =
     let f : length (buffers .before .before .program-buffer .result) ≡ programLength = search needs in
     let g : length (buffers .before .memory-buffer .result) ≡ memoryLength = search needs in
     (s .pre .0, (s .pre .1 .0, (e, f, g, refl)))
-
-piece-count-requires : tie.Need-piece-count-requires Inv-loop μ-loop
-piece-count-requires c κs = search needs
 
 loop-holds : tie.Need-loop-holds Inv-loop μ-loop
 loop-holds c =
@@ -68,9 +41,6 @@ loop-holds c =
 
 slice-aggregate-step : tie.Need-slice-aggregate-step Inv-loop μ-loop
 slice-aggregate-step c = sym ((c .before .before .loop .inv .stands (c .before .loop-test .taken)) .right .sizes .panel-size)
-
-slice-aggregate-step-2 : tie.Need-slice-aggregate-step-2 Inv-loop μ-loop
-slice-aggregate-step-2 c = search needs
 
 slice-aggregate-step-3 : tie.Need-slice-aggregate-step-3 Inv-loop μ-loop
 slice-aggregate-step-3 c =
@@ -141,19 +111,19 @@ print-listing-spec =
     (tie.spec
     Inv-loop
     μ-loop
-    panel-buffer-requires
-    program-buffer-requires
-    memory-buffer-requires
-    piece-buffer-requires
-    slice-aggregate-open
-    slice-aggregate-open-2
-    slice-aggregate-open-3
-    slice-aggregate-open-4
+    (λ c κs. search needs)
+    (λ c κs. search needs)
+    (λ c κs. search needs)
+    (λ c κs. search needs)
+    (λ c. search needs)
+    (λ c. search needs)
+    (λ c. search needs)
+    (λ c. search needs)
     open-requires
-    piece-count-requires
+    (λ c κs. search needs)
     loop-holds
     slice-aggregate-step
-    slice-aggregate-step-2
+    (λ c. search needs)
     slice-aggregate-step-3
     slice-aggregate-step-4
     slice-aggregate-step-5

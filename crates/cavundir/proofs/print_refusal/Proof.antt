@@ -9,12 +9,6 @@ use Rattle.cavundir.proofs.Printing.{written, line-short, refusal-part,
 use Rattle.cavundir.proofs.print_refusal.Statement.{statement}
 use Rattle.cavundir.proofs.print_refusal.Tie as tie
 
-slice-aggregate-write-refusal : tie.Need-slice-aggregate-write-refusal
-slice-aggregate-write-refusal c = search needs
-
-write-refusal-requires : tie.Need-write-refusal-requires
-write-refusal-requires c κs = search needs
-
 array-share-prefix-line : tie.Need-array-share-prefix-line
 array-share-prefix-line c =
     let w = c .before .write-refusal in
@@ -41,8 +35,8 @@ pub print-refusal-spec : {M : Type 1} → statement M
 print-refusal-spec =
     tie.close
     (tie.spec
-    slice-aggregate-write-refusal
-    write-refusal-requires
+    (λ c. search needs)
+    (λ c κs. search needs)
     array-share-prefix-line
     slice-aggregate-put
     put-requires

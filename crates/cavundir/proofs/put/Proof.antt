@@ -8,9 +8,6 @@ use Rattle.cavundir.proofs.Printing.{parts-few}
 use Rattle.cavundir.proofs.put.Statement.{statement}
 use Rattle.cavundir.proofs.put.Tie as tie
 
-write-all-requires : tie.Need-write-all-requires
-write-all-requires c κs = search needs
-
 add-parts : tie.Need-add-parts
 add-parts c =
     let s = c .before .before .before .before .before .before .before in
@@ -21,8 +18,5 @@ returns c =
     let s = c .before .before .before .before .before .before .before in
     sym (ap (partsAfter (now (s .args .parts))) (s .pre .1 .1))
 
-returns-2 : tie.Need-returns-2
-returns-2 c = search needs
-
 pub put-spec : {M : Type 1} → statement M
-put-spec = tie.close (tie.spec write-all-requires add-parts returns returns-2)
+put-spec = tie.close (tie.spec (λ c κs. search needs) add-parts returns (λ c. search needs))

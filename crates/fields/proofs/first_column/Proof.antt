@@ -17,12 +17,9 @@ returns-3 : tie.Need-returns-3
 unfolding scan
 returns-3 c = search (needs, decided, digit-above)
 
-cast-t4 : tie.Need-cast-t4
-cast-t4 c = search needs
-
 returns-4 : tie.Need-returns-4
 unfolding scan
 returns-4 c = search (needs, decided, digit-within)
 
 pub first-column-spec : {M : Type 1} → statement M
-first-column-spec = tie.close (tie.spec returns returns-2 returns-3 cast-t4 returns-4)
+first-column-spec = tie.close (tie.spec returns returns-2 returns-3 (λ c. search needs) returns-4)

@@ -13,12 +13,9 @@ returns-2 : tie.Need-returns-2
 unfolding scan
 returns-2 c = search (needs, decided, digit-above)
 
-extend-requires : tie.Need-extend-requires
-extend-requires c κs = search needs
-
 returns-3 : tie.Need-returns-3
 unfolding scan
 returns-3 c = search (needs, decided, digit-within)
 
 pub next-column-spec : {M : Type 1} → statement M
-next-column-spec = tie.close (tie.spec returns returns-2 extend-requires returns-3)
+next-column-spec = tie.close (tie.spec returns returns-2 (λ c κs. search needs) returns-3)

@@ -17,18 +17,9 @@ Inv-loop test net modfile processors slots lines k₀ k = (k ≤ lines) × (firs
 abbrev μ-loop : tie.MeasureT-loop
 μ-loop test net modfile processors slots lines k₀ k = lines - k
 
-line-count-requires : tie.Need-line-count-requires Inv-loop μ-loop
-line-count-requires c κs = search needs
-
 loop-holds : tie.Need-loop-holds Inv-loop μ-loop
 unfolding firstBelow
 loop-holds c = (omega arith, refl)
-
-processor-of-requires : tie.Need-processor-of-requires Inv-loop μ-loop
-processor-of-requires c κs = search needs
-
-slot-of-requires : tie.Need-slot-of-requires Inv-loop μ-loop
-slot-of-requires c κs = search needs
 
 line-right-requires : tie.Need-line-right-requires Inv-loop μ-loop
 line-right-requires c κs =
@@ -41,15 +32,6 @@ line-right-requires c κs =
     let low-i : slot-of .result < s .args .slots = omega (arith, slot-of .ensures, at-slot _ _ _ (s .pre .0) (loop .k) low) in
     (s .pre .0, (s .pre .1 .0, (s .pre .1 .1, (low-p, low-i))))
 
-add-refused-at : tie.Need-add-refused-at Inv-loop μ-loop
-add-refused-at c = search needs
-
-cast-refused-at : tie.Need-cast-refused-at Inv-loop μ-loop
-cast-refused-at c = search needs
-
-refused-at-requires : tie.Need-refused-at-requires Inv-loop μ-loop
-refused-at-requires c κs = search needs
-
 returns : tie.Need-returns Inv-loop μ-loop
 returns c =
     let s = c .before .before .before .before .before .before .before .before .before .before in
@@ -57,12 +39,6 @@ returns c =
     let here = rw (c .before .before .before .before .processor-of .ensures, c .before .before .before .slot-of .ensures) at (c .before .before .line-right .ensures) in
     let stops = test-stops (s .args .test) (network (s .args .net .now)) (s .args .modfile .now) _ _ (s .pre .0 .sized) _ (loop .k) (c .before .before .before .before .before .before .before .line-count .ensures .0) (loop .inv .1) (c .before .before .before .before .before .loop-test .taken) _ here (not-true _ (c .before .if1 .taken)) in
     rw (c .refused-at .ensures) stops
-
-add-k : tie.Need-add-k Inv-loop μ-loop
-add-k c = search needs
-
-loop-less : tie.Need-loop-less Inv-loop μ-loop
-loop-less c = search needs
 
 loop-again : tie.Need-loop-again Inv-loop μ-loop
 loop-again c =
@@ -83,16 +59,16 @@ check-each-spec =
     (tie.spec
     Inv-loop
     μ-loop
-    line-count-requires
+    (λ c κs. search needs)
     loop-holds
-    processor-of-requires
-    slot-of-requires
+    (λ c κs. search needs)
+    (λ c κs. search needs)
     line-right-requires
-    add-refused-at
-    cast-refused-at
-    refused-at-requires
+    (λ c. search needs)
+    (λ c. search needs)
+    (λ c κs. search needs)
     returns
-    add-k
-    loop-less
+    (λ c. search needs)
+    (λ c. search needs)
     loop-again
     returns-2)

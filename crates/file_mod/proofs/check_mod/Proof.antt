@@ -15,12 +15,6 @@ number-at-requires c κs =
     let s = c .before .before in
     net-field (s .args .net .now) 0 0 refl (s .pre) (omega arith) 1 6 (omega arith) refl
 
-check-form-requires : tie.Need-check-form-requires
-check-form-requires c κs = search needs
-
-enum-known-form : tie.Need-enum-known-form
-enum-known-form c = search needs
-
 returns : tie.Need-returns
 returns c =
     let check-form = c .before .check-form in
@@ -62,8 +56,8 @@ check-mod-spec =
     tie.close
     (tie.spec
     number-at-requires
-    check-form-requires
-    enum-known-form
+    (λ c κs. search needs)
+    (λ c. search needs)
     returns
     check-module-requires
     returns-2)

@@ -7,23 +7,11 @@ use borrow.Author.Needs.{needs}
 use Rattle.file_mod.proofs.check_module.Statement.{statement}
 use Rattle.file_mod.proofs.check_module.Tie as tie
 
-check-placements-requires : tie.Need-check-placements-requires
-check-placements-requires c κs = search needs
-
-enum-told : tie.Need-enum-told
-enum-told c = search needs
-
 returns : tie.Need-returns
 returns c =
     let s = c .before .before .before .before in
     let placed-answer = c .before .check-placements .ensures (network (s .args .net .now)) (net-signals (s .args .net .now) _ (s .pre .1 .1 .1 .0)) in
     refused _ _ _ _ _ _ _ placed-answer (not-accepted _ (c .match .keys2))
-
-check-each-requires : tie.Need-check-each-requires
-check-each-requires c κs = search needs
-
-enum-told-2 : tie.Need-enum-told-2
-enum-told-2 c = search needs
 
 returns-2 : tie.Need-returns-2
 returns-2 c =
@@ -31,21 +19,12 @@ returns-2 c =
     let placed-answer = c .before .before .before .before .check-placements .ensures (network (s .args .net .now)) (net-signals (s .args .net .now) _ (s .pre .1 .1 .1 .0)) in
     after _ _ _ _ _ (passed _ _ _ _ _ _ placed-answer (c .before .before .enum-told .given .1)) (refused _ _ _ _ _ _ _ (c .before .check-each .ensures) (not-accepted _ (c .match2 .keys2)))
 
-check-each-requires-2 : tie.Need-check-each-requires-2
-check-each-requires-2 c κs = search needs
-
-enum-told-3 : tie.Need-enum-told-3
-enum-told-3 c = search needs
-
 returns-3 : tie.Need-returns-3
 returns-3 c =
     let s = c .before .before .before .before .before .before .before .before .before .before in
     let placed-answer = c .before .before .before .before .before .before .before .check-placements .ensures (network (s .args .net .now)) (net-signals (s .args .net .now) _ (s .pre .1 .1 .1 .0)) in
     let sends-pass = passed _ _ _ _ _ _ (c .before .before .before .before .check-each .ensures) (c .before .before .enum-told2 .given .1) in
     after _ _ _ _ _ (passed _ _ _ _ _ _ placed-answer (c .before .before .before .before .before .enum-told .given .1)) (after _ _ _ _ _ sends-pass (refused _ _ _ _ _ _ _ (c .before .check-each2 .ensures) (not-accepted _ (c .match3 .keys2))))
-
-check-each-requires-3 : tie.Need-check-each-requires-3
-check-each-requires-3 c κs = search needs
 
 returns-4 : tie.Need-returns-4
 returns-4 c =
@@ -59,14 +38,14 @@ pub check-module-spec : {M : Type 1} → statement M
 check-module-spec =
     tie.close
     (tie.spec
-    check-placements-requires
-    enum-told
+    (λ c κs. search needs)
+    (λ c. search needs)
     returns
-    check-each-requires
-    enum-told-2
+    (λ c κs. search needs)
+    (λ c. search needs)
     returns-2
-    check-each-requires-2
-    enum-told-3
+    (λ c κs. search needs)
+    (λ c. search needs)
     returns-3
-    check-each-requires-3
+    (λ c κs. search needs)
     returns-4)

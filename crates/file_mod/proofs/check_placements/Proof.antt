@@ -6,17 +6,8 @@ use borrow.Author.Needs.{needs}
 use Rattle.file_mod.proofs.check_placements.Statement.{statement}
 use Rattle.file_mod.proofs.check_placements.Tie as tie
 
-slice-aggregate-count-signals : tie.Need-slice-aggregate-count-signals
-slice-aggregate-count-signals c = search needs
-
 count-signals-requires : tie.Need-count-signals-requires
 count-signals-requires c κs = (c .before .before .pre .0, (search needs, λ s h. getD-replicate 4097 s 0 0 (omega arith)))
-
-slice-aggregate-find-unplaced : tie.Need-slice-aggregate-find-unplaced
-slice-aggregate-find-unplaced c = search needs
-
-find-unplaced-requires : tie.Need-find-unplaced-requires
-find-unplaced-requires c κs = search needs
 
 returns : tie.Need-returns
 returns c =
@@ -29,8 +20,8 @@ pub check-placements-spec : {M : Type 1} → statement M
 check-placements-spec =
     tie.close
     (tie.spec
-    slice-aggregate-count-signals
+    (λ c. search needs)
     count-signals-requires
-    slice-aggregate-find-unplaced
-    find-unplaced-requires
+    (λ c. search needs)
+    (λ c κs. search needs)
     returns)

@@ -18,21 +18,9 @@ Inv-loop modfile processors slots counts₀ lines k₀ counts k =
 abbrev μ-loop : tie.MeasureT-loop
 μ-loop modfile processors slots counts₀ lines k₀ counts k = lines - k
 
-line-count-requires : tie.Need-line-count-requires Inv-loop μ-loop
-line-count-requires c κs = search needs
-
 loop-holds : tie.Need-loop-holds Inv-loop μ-loop
 unfolding total
 loop-holds c = (omega arith, refl, c .before .before .before .pre .1 .1)
-
-add-number-at : tie.Need-add-number-at Inv-loop μ-loop
-add-number-at c = search needs
-
-mul-number-at : tie.Need-mul-number-at Inv-loop μ-loop
-mul-number-at c = search needs
-
-add-number-at-2 : tie.Need-add-number-at-2 Inv-loop μ-loop
-add-number-at-2 c = search needs
 
 number-at-requires : tie.Need-number-at-requires Inv-loop μ-loop
 number-at-requires c κs =
@@ -42,12 +30,6 @@ number-at-requires c κs =
     let low : loop .k < s .args .processors * s .args .slots = omega (arith, line-count .ensures .0) in
     let line = laid-line (s .args .modfile .now) (s .args .processors) (s .args .slots) (s .pre .0) (loop .k) low in
     field-of-line _ (85 * (loop .k + 1)) 14 line 2 (85 * (loop .k + 1) + 12) (omega arith) (omega arith)
-
-cast-signal : tie.Need-cast-signal Inv-loop μ-loop
-cast-signal c = search needs
-
-mul-counts : tie.Need-mul-counts Inv-loop μ-loop
-mul-counts c = search needs
 
 slice-read-counts : tie.Need-slice-read-counts Inv-loop μ-loop
 slice-read-counts c =
@@ -82,12 +64,6 @@ slice-write-counts c =
     let x : number-at .result ≤ 4096 = omega (arith, number-at .ensures, small) in
     omega (arith, x, loop .inv .1, s .pre .1 .0)
 
-add-k : tie.Need-add-k Inv-loop μ-loop
-add-k c = search needs
-
-loop-less : tie.Need-loop-less Inv-loop μ-loop
-loop-less c = search needs
-
 loop-again : tie.Need-loop-again Inv-loop μ-loop
 loop-again c =
     let s = c .before .before .before .before .before .before .before in
@@ -98,9 +74,6 @@ loop-again c =
     let small = laid-signal (s .args .modfile .now) (s .args .processors) (s .args .slots) (s .pre .0) (loop .k) low in
     let x : number-at .result ≤ 4096 = omega (arith, number-at .ensures, small) in
     (omega arith, simp length-set (loop .inv .1), count-more (loop .counts) _ _ _ (loop .inv .1 ∙ s .pre .1 .0) x (number-at .ensures) (loop .inv .2))
-
-same-length : tie.Need-same-length Inv-loop μ-loop
-same-length c = search needs
 
 returns : tie.Need-returns Inv-loop μ-loop
 returns c =
@@ -115,19 +88,19 @@ count-signals-spec =
     (tie.spec
     Inv-loop
     μ-loop
-    line-count-requires
+    (λ c κs. search needs)
     loop-holds
-    add-number-at
-    mul-number-at
-    add-number-at-2
+    (λ c. search needs)
+    (λ c. search needs)
+    (λ c. search needs)
     number-at-requires
-    cast-signal
-    mul-counts
+    (λ c. search needs)
+    (λ c. search needs)
     slice-read-counts
     add-counts
     slice-write-counts
-    add-k
-    loop-less
+    (λ c. search needs)
+    (λ c. search needs)
     loop-again
-    same-length
+    (λ c. search needs)
     returns)

@@ -7,21 +7,12 @@ use borrow.Author.Needs.{needs}
 use Rattle.file_mod.proofs.instruction_at.Statement.{statement}
 use Rattle.file_mod.proofs.instruction_at.Tie as tie
 
-line-place-requires : tie.Need-line-place-requires
-line-place-requires c κs = search needs
-
-add-number-at : tie.Need-add-number-at
-add-number-at c = search needs
-
 number-at-requires : tie.Need-number-at-requires
 number-at-requires c κs =
     let s = c .before .before in
     let line-place = c .line-place in
     let laid = field-laid _ _ _ (s .pre .0) (s .args .processor) (s .args .slot) (line-place .result) (s .pre .1 .0) (s .pre .1 .1) (line-place .ensures .0) in
     laid 2 (line-place .result + 12) (omega arith) (omega arith)
-
-add-named-at : tie.Need-add-named-at
-add-named-at c = search needs
 
 named-at-requires : tie.Need-named-at-requires
 named-at-requires c κs =
@@ -30,18 +21,12 @@ named-at-requires c κs =
     let laid = field-laid _ _ _ (s .pre .0) (s .args .processor) (s .args .slot) (line-place .result) (s .pre .1 .0) (s .pre .1 .1) (line-place .ensures .0) in
     (laid 3 (line-place .result + 18) (omega arith) (omega arith), laid 4 (line-place .result + 18 + 6) (omega arith) (omega arith), operand-small _ _ _ (s .pre .0) (s .args .processor) (s .args .slot) (line-place .result) (s .pre .1 .0) (s .pre .1 .1) (line-place .ensures .0) 0 (line-place .result + 18 + 6) (omega arith) (omega arith))
 
-add-named-at-2 : tie.Need-add-named-at-2
-add-named-at-2 c = search needs
-
 named-at-requires-2 : tie.Need-named-at-requires-2
 named-at-requires-2 c κs =
     let s = c .before .before .before .before in
     let line-place = c .before .before .line-place in
     let laid = field-laid _ _ _ (s .pre .0) (s .args .processor) (s .args .slot) (line-place .result) (s .pre .1 .0) (s .pre .1 .1) (line-place .ensures .0) in
     (laid 5 (line-place .result + 30) (omega arith) (omega arith), laid 6 (line-place .result + 30 + 6) (omega arith) (omega arith), operand-small _ _ _ (s .pre .0) (s .args .processor) (s .args .slot) (line-place .result) (s .pre .1 .0) (s .pre .1 .1) (line-place .ensures .0) 1 (line-place .result + 30 + 6) (omega arith) (omega arith))
-
-add-named-at-3 : tie.Need-add-named-at-3
-add-named-at-3 c = search needs
 
 named-at-requires-3 : tie.Need-named-at-requires-3
 named-at-requires-3 c κs =
@@ -50,9 +35,6 @@ named-at-requires-3 c κs =
     let laid = field-laid _ _ _ (s .pre .0) (s .args .processor) (s .args .slot) (line-place .result) (s .pre .1 .0) (s .pre .1 .1) (line-place .ensures .0) in
     (laid 7 (line-place .result + 42) (omega arith) (omega arith), laid 8 (line-place .result + 42 + 6) (omega arith) (omega arith), operand-small _ _ _ (s .pre .0) (s .args .processor) (s .args .slot) (line-place .result) (s .pre .1 .0) (s .pre .1 .1) (line-place .ensures .0) 2 (line-place .result + 42 + 6) (omega arith) (omega arith))
 
-add-named-at-4 : tie.Need-add-named-at-4
-add-named-at-4 c = search needs
-
 named-at-requires-4 : tie.Need-named-at-requires-4
 named-at-requires-4 c κs =
     let s = c .before .before .before .before .before .before in
@@ -60,18 +42,12 @@ named-at-requires-4 c κs =
     let laid = field-laid _ _ _ (s .pre .0) (s .args .processor) (s .args .slot) (line-place .result) (s .pre .1 .0) (s .pre .1 .1) (line-place .ensures .0) in
     (laid 9 (line-place .result + 54) (omega arith) (omega arith), laid 10 (line-place .result + 54 + 6) (omega arith) (omega arith), operand-small _ _ _ (s .pre .0) (s .args .processor) (s .args .slot) (line-place .result) (s .pre .1 .0) (s .pre .1 .1) (line-place .ensures .0) 3 (line-place .result + 54 + 6) (omega arith) (omega arith))
 
-add-named-at-5 : tie.Need-add-named-at-5
-add-named-at-5 c = search needs
-
 named-at-requires-5 : tie.Need-named-at-requires-5
 named-at-requires-5 c κs =
     let s = c .before .before .before .before .before .before .before in
     let line-place = c .before .before .before .before .before .line-place in
     let laid = field-laid _ _ _ (s .pre .0) (s .args .processor) (s .args .slot) (line-place .result) (s .pre .1 .0) (s .pre .1 .1) (line-place .ensures .0) in
     (laid 11 (line-place .result + 66) (omega arith) (omega arith), laid 12 (line-place .result + 66 + 6) (omega arith) (omega arith), send-small _ _ _ (s .pre .0) (s .args .processor) (s .args .slot) (line-place .result) (s .pre .1 .0) (s .pre .1 .1) (line-place .ensures .0))
-
-add-number-at-2 : tie.Need-add-number-at-2
-add-number-at-2 c = search needs
 
 number-at-requires-2 : tie.Need-number-at-requires-2
 number-at-requires-2 c κs =
@@ -107,20 +83,20 @@ pub instruction-at-spec : {M : Type 1} → statement M
 instruction-at-spec =
     tie.close
     (tie.spec
-    line-place-requires
-    add-number-at
+    (λ c κs. search needs)
+    (λ c. search needs)
     number-at-requires
-    add-named-at
+    (λ c. search needs)
     named-at-requires
-    add-named-at-2
+    (λ c. search needs)
     named-at-requires-2
-    add-named-at-3
+    (λ c. search needs)
     named-at-requires-3
-    add-named-at-4
+    (λ c. search needs)
     named-at-requires-4
-    add-named-at-5
+    (λ c. search needs)
     named-at-requires-5
-    add-number-at-2
+    (λ c. search needs)
     number-at-requires-2
     cast-t21
     returns)

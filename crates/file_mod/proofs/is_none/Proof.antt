@@ -4,9 +4,6 @@ use borrow.Author.Needs.{needs}
 use Rattle.file_mod.proofs.is_none.Statement.{statement}
 use Rattle.file_mod.proofs.is_none.Tie as tie
 
-enum-told : tie.Need-enum-told
-enum-told c = search needs
-
 returns : tie.Need-returns
 returns c = none-apart (c .before .args .a) (not-none (c .before .args .a) (c .match .keys2))
 
@@ -14,4 +11,4 @@ returns-2 : tie.Need-returns-2
 returns-2 c = rw (c .enum-told .given .1)
 
 pub is-none-spec : {M : Type 1} → statement M
-is-none-spec = tie.close (tie.spec enum-told returns returns-2)
+is-none-spec = tie.close (tie.spec (λ c. search needs) returns returns-2)

@@ -10,11 +10,8 @@ use Rattle.file_mod.proofs.local_earlier_right.Tie as tie
 returns : tie.Need-returns
 returns c = sym (reads-local-earlier _ _ _ _ _ _ ∙ equal-stops _ _ _ _ refl (c .if1 .taken))
 
-signal-at-requires : tie.Need-signal-at-requires
-signal-at-requires c κs = search needs
-
 returns-2 : tie.Need-returns-2
 returns-2 c = ap (λ (x : ℕ). eqb x (c .before .before .before .args .source)) (c .signal-at .ensures) ∙ sym (reads-local-earlier _ _ _ _ _ _ ∙ equal-goes-on _ _ _ _ refl (c .before .if1 .left))
 
 pub local-earlier-right-spec : {M : Type 1} → statement M
-local-earlier-right-spec = tie.close (tie.spec returns signal-at-requires returns-2)
+local-earlier-right-spec = tie.close (tie.spec returns (λ c κs. search needs) returns-2)

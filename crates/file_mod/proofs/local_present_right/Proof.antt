@@ -13,11 +13,8 @@ returns c = sym (reads-local-present _ _ _ _ _ _ ∙ equal-stops _ _ _ _ refl (c
 returns-2 : tie.Need-returns-2
 returns-2 c = sym (reads-local-present _ _ _ _ _ _ ∙ equal-goes-on _ _ _ _ refl (c .before .if1 .left) ∙ low-stops _ _ _ (c .if2 .taken))
 
-signal-at-requires : tie.Need-signal-at-requires
-signal-at-requires c κs = search needs
-
 returns-3 : tie.Need-returns-3
 returns-3 c = ap (λ (x : ℕ). eqb x (c .before .before .before .before .args .source)) (c .signal-at .ensures) ∙ sym (reads-local-present _ _ _ _ _ _ ∙ equal-goes-on _ _ _ _ refl (c .before .before .if1 .left) ∙ low-goes-on _ _ _ (c .before .if2 .left))
 
 pub local-present-right-spec : {M : Type 1} → statement M
-local-present-right-spec = tie.close (tie.spec returns returns-2 signal-at-requires returns-3)
+local-present-right-spec = tie.close (tie.spec returns returns-2 (λ c κs. search needs) returns-3)

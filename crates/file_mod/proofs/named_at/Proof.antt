@@ -4,20 +4,8 @@ use borrow.Author.Needs.{needs}
 use Rattle.file_mod.proofs.named_at.Statement.{statement}
 use Rattle.file_mod.proofs.named_at.Tie as tie
 
-number-at-requires : tie.Need-number-at-requires
-number-at-requires c κs = search needs
-
 add-number-at : tie.Need-add-number-at
 add-number-at c = let a = c .before .before in omega (arith, field-length (a .args .modfile .now) (a .args .at) (a .pre .0))
-
-number-at-requires-2 : tie.Need-number-at-requires-2
-number-at-requires-2 c κs = search needs
-
-cast-operand-of : tie.Need-cast-operand-of
-cast-operand-of c = search needs
-
-operand-of-requires : tie.Need-operand-of-requires
-operand-of-requires c κs = search needs
 
 returns : tie.Need-returns
 returns c = (cc)
@@ -26,9 +14,9 @@ pub named-at-spec : {M : Type 1} → statement M
 named-at-spec =
     tie.close
     (tie.spec
-    number-at-requires
+    (λ c κs. search needs)
     add-number-at
-    number-at-requires-2
-    cast-operand-of
-    operand-of-requires
+    (λ c κs. search needs)
+    (λ c. search needs)
+    (λ c κs. search needs)
     returns)

@@ -7,9 +7,6 @@ use borrow.Author.Needs.{needs}
 use Rattle.file_mod.proofs.operand_right.Statement.{statement}
 use Rattle.file_mod.proofs.operand_right.Tie as tie
 
-is-none-requires : tie.Need-is-none-requires
-is-none-requires c κs = search needs
-
 returns : tie.Need-returns
 returns c =
     let s = c .before .before .before .before in
@@ -20,18 +17,12 @@ returns c =
     let has = operand-has (s .args .modfile .now) (s .args .processors) (s .args .slots) (s .pre .0) (s .args .processor) (s .args .slot) (range .0) (range .1) (s .args .a) (s .args .j) (range .2) (line .2) in
     is-none .ensures ∙ operand-empty _ _ _ _ _ (s .args .signal) (line .0) (s .args .a) has (if1 .taken)
 
-mul-place : tie.Need-mul-place
-mul-place c = search needs
-
 number-at-requires : tie.Need-number-at-requires
 number-at-requires c κs =
     let s = c .before .before .before in
     let line = s .pre .1 .1 .1 in
     let net-right = net-field (s .args .net .now) (s .args .signal) (73 * s .args .signal) refl (s .pre .1 .0) (line .1) in
     net-right 0 (73 * s .args .signal) (omega arith) (omega arith)
-
-is-none-requires-2 : tie.Need-is-none-requires-2
-is-none-requires-2 c κs = search needs
 
 returns-2 : tie.Need-returns-2
 returns-2 c =
@@ -46,24 +37,12 @@ returns-2 c =
     let is-kind = number-at .ensures ∙ kind-read (s .args .net .now) (s .args .signal) (73 * s .args .signal) refl in
     is-none2 .ensures ∙ operand-input _ _ _ _ _ (s .args .signal) (line .0) (s .args .a) has (if1 .left) (number-at .result) is-kind (if2 .taken)
 
-add-number-at : tie.Need-add-number-at
-add-number-at c = search needs
-
-mul-number-at : tie.Need-mul-number-at
-mul-number-at c = search needs
-
-add-number-at-2 : tie.Need-add-number-at-2
-add-number-at-2 c = search needs
-
 number-at-requires-2 : tie.Need-number-at-requires-2
 number-at-requires-2 c κs =
     let s = c .before .before .before .before .before in
     let line = s .pre .1 .1 .1 in
     let net-right = net-field (s .args .net .now) (s .args .signal) (73 * s .args .signal) refl (s .pre .1 .0) (line .1) in
     net-right (8 + s .args .j) (73 * s .args .signal + 6 * (8 + s .args .j)) (omega arith) refl
-
-is-none-requires-3 : tie.Need-is-none-requires-3
-is-none-requires-3 c κs = search needs
 
 returns-3 : tie.Need-returns-3
 returns-3 c =
@@ -109,17 +88,17 @@ pub operand-right-spec : {M : Type 1} → statement M
 operand-right-spec =
     tie.close
     (tie.spec
-    is-none-requires
+    (λ c κs. search needs)
     returns
-    mul-place
+    (λ c. search needs)
     number-at-requires
-    is-none-requires-2
+    (λ c κs. search needs)
     returns-2
-    add-number-at
-    mul-number-at
-    add-number-at-2
+    (λ c. search needs)
+    (λ c. search needs)
+    (λ c. search needs)
     number-at-requires-2
-    is-none-requires-3
+    (λ c κs. search needs)
     returns-3
     reads-source-requires
     returns-4)

@@ -7,9 +7,6 @@ use borrow.Author.Needs.{needs}
 use Rattle.file_mod.proofs.operands_right.Statement.{statement}
 use Rattle.file_mod.proofs.operands_right.Tie as tie
 
-instruction-at-requires : tie.Need-instruction-at-requires
-instruction-at-requires c κs = search needs
-
 operand-right-requires : tie.Need-operand-right-requires
 operand-right-requires c κs = (c .before .before .before .pre .0, (c .before .before .before .pre .1 .0, ((c .before .before .before .pre .1 .1 .1 .0, c .before .before .before .pre .1 .1 .1 .1, omega arith), (ap (λ (r : Instruction). r .signal) (c .instruction-at .ensures), omega (arith, ap (λ (r : Instruction). r .signal) (c .instruction-at .ensures), c .before .before .before .pre .1 .1 .0 (c .before .before .before .args .processor) (c .before .before .before .args .slot) (c .before .before .before .pre .1 .1 .1 .0) (c .before .before .before .pre .1 .1 .1 .1)), ap (λ (r : Instruction). r .a1) (c .instruction-at .ensures)))))
 
@@ -38,7 +35,7 @@ pub operands-right-spec : {M : Type 1} → statement M
 operands-right-spec =
     tie.close
     (tie.spec
-    instruction-at-requires
+    (λ c κs. search needs)
     operand-right-requires
     returns
     operand-right-requires-2

@@ -6,23 +6,11 @@ use borrow.Author.Needs.{needs}
 use Rattle.file_mod.proofs.reads_source.Statement.{statement}
 use Rattle.file_mod.proofs.reads_source.Tie as tie
 
-enum-known-a : tie.Need-enum-known-a
-enum-known-a c = search needs
-
-cast-local-earlier-right : tie.Need-cast-local-earlier-right
-cast-local-earlier-right c = search needs
-
 local-earlier-right-requires : tie.Need-local-earlier-right-requires
 local-earlier-right-requires c κs =
     let s = c .before .before .before .before in
     let a = c .before .a in
     (s .pre .0, (s .pre .1 .0, omega (arith, s .pre .1 .1, ap locationOf (a .given .1))))
-
-enum-known-a-2 : tie.Need-enum-known-a-2
-enum-known-a-2 c = search needs
-
-cast-local-present-right : tie.Need-cast-local-present-right
-cast-local-present-right c = search needs
 
 local-present-right-requires : tie.Need-local-present-right-requires
 local-present-right-requires c κs =
@@ -30,32 +18,17 @@ local-present-right-requires c κs =
     let a2 = c .before .a2 in
     (s .pre .0, (s .pre .1 .0, omega (arith, s .pre .1 .1, ap locationOf (a2 .given .1))))
 
-enum-known-a-3 : tie.Need-enum-known-a-3
-enum-known-a-3 c = search needs
-
-cast-switch-earlier-right : tie.Need-cast-switch-earlier-right
-cast-switch-earlier-right c = search needs
-
 switch-earlier-right-requires : tie.Need-switch-earlier-right-requires
 switch-earlier-right-requires c κs =
     let s = c .before .before .before .before in
     let a3 = c .before .a3 in
     (s .pre .0, (s .pre .1 .0, omega (arith, s .pre .1 .1, ap locationOf (a3 .given .1))))
 
-enum-known-a-4 : tie.Need-enum-known-a-4
-enum-known-a-4 c = search needs
-
-cast-switch-present-right : tie.Need-cast-switch-present-right
-cast-switch-present-right c = search needs
-
 switch-present-right-requires : tie.Need-switch-present-right-requires
 switch-present-right-requires c κs =
     let s = c .before .before .before .before in
     let a4 = c .before .a4 in
     (s .pre .0, (s .pre .1 .0, omega (arith, s .pre .1 .1, ap locationOf (a4 .given .1))))
-
-enum-told : tie.Need-enum-told
-enum-told c = search needs
 
 returns : tie.Need-returns
 returns c = rw (c .before .before .a .given .1) (c .local-earlier-right .ensures)
@@ -76,19 +49,19 @@ pub reads-source-spec : {M : Type 1} → statement M
 reads-source-spec =
     tie.close
     (tie.spec
-    enum-known-a
-    cast-local-earlier-right
+    (λ c. search needs)
+    (λ c. search needs)
     local-earlier-right-requires
-    enum-known-a-2
-    cast-local-present-right
+    (λ c. search needs)
+    (λ c. search needs)
     local-present-right-requires
-    enum-known-a-3
-    cast-switch-earlier-right
+    (λ c. search needs)
+    (λ c. search needs)
     switch-earlier-right-requires
-    enum-known-a-4
-    cast-switch-present-right
+    (λ c. search needs)
+    (λ c. search needs)
     switch-present-right-requires
-    enum-told
+    (λ c. search needs)
     returns
     returns-2
     returns-3

@@ -8,23 +8,14 @@ use borrow.Author.Needs.{needs}
 use Rattle.file_mod.proofs.reception_right.Statement.{statement}
 use Rattle.file_mod.proofs.reception_right.Tie as tie
 
-sender-at-requires : tie.Need-sender-at-requires
-sender-at-requires c κs = search needs
-
 returns : tie.Need-returns
 returns c = reception-none _ _ _ _ (c .before .sender-at .ensures) (c .if1 .taken)
-
-cast-send-at : tie.Need-cast-send-at
-cast-send-at c = search needs
 
 send-at-requires : tie.Need-send-at-requires
 send-at-requires c κs =
     let s = c .before .before .before in
     let from = c .before .sender-at .ensures in
     (s .pre .0, (omega (arith, from, sender-low _ _ _ (s .pre .0) _ _ (s .pre .1 .0) (s .pre .1 .1) (λ e. c .if1 .left (from ∙ e))), s .pre .1 .1))
-
-is-none-requires : tie.Need-is-none-requires
-is-none-requires c κs = search needs
 
 returns-2 : tie.Need-returns-2
 returns-2 c =
@@ -39,4 +30,4 @@ returns-2 c =
 pub reception-right-spec : {M : Type 1} → statement M
 reception-right-spec =
     tie.close
-    (tie.spec sender-at-requires returns cast-send-at send-at-requires is-none-requires returns-2)
+    (tie.spec (λ c κs. search needs) returns (λ c. search needs) send-at-requires (λ c κs. search needs) returns-2)

@@ -7,12 +7,6 @@ use borrow.Author.Needs.{needs}
 use Rattle.file_mod.proofs.send_at.Statement.{statement}
 use Rattle.file_mod.proofs.send_at.Tie as tie
 
-line-place-requires : tie.Need-line-place-requires
-line-place-requires c κs = search needs
-
-add-named-at : tie.Need-add-named-at
-add-named-at c = search needs
-
 named-at-requires : tie.Need-named-at-requires
 named-at-requires c κs =
     let s = c .before .before in
@@ -30,4 +24,4 @@ returns c =
     named-at .ensures ∙ (rw (read 11 (line-place .result + 66) (omega arith), read 12 (line-place .result + 66 + 6) (omega arith)))
 
 pub send-at-spec : {M : Type 1} → statement M
-send-at-spec = tie.close (tie.spec line-place-requires add-named-at named-at-requires returns)
+send-at-spec = tie.close (tie.spec (λ c κs. search needs) (λ c. search needs) named-at-requires returns)

@@ -7,12 +7,6 @@ use borrow.Author.Needs.{needs}
 use Rattle.file_mod.proofs.sender_at.Statement.{statement}
 use Rattle.file_mod.proofs.sender_at.Tie as tie
 
-line-place-requires : tie.Need-line-place-requires
-line-place-requires c κs = search needs
-
-add-number-at : tie.Need-add-number-at
-add-number-at c = search needs
-
 number-at-requires : tie.Need-number-at-requires
 number-at-requires c κs =
     let s = c .before .before in
@@ -38,4 +32,4 @@ returns c =
 
 pub sender-at-spec : {M : Type 1} → statement M
 sender-at-spec =
-    tie.close (tie.spec line-place-requires add-number-at number-at-requires cast-result returns)
+    tie.close (tie.spec (λ c κs. search needs) (λ c. search needs) number-at-requires cast-result returns)

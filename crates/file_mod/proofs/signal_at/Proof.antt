@@ -7,12 +7,6 @@ use borrow.Author.Needs.{needs}
 use Rattle.file_mod.proofs.signal_at.Statement.{statement}
 use Rattle.file_mod.proofs.signal_at.Tie as tie
 
-line-place-requires : tie.Need-line-place-requires
-line-place-requires c κs = search needs
-
-add-number-at : tie.Need-add-number-at
-add-number-at c = search needs
-
 number-at-requires : tie.Need-number-at-requires
 number-at-requires c κs =
     let s = c .before .before in
@@ -30,4 +24,4 @@ returns c =
     number-at .ensures ∙ read 2 (line-place .result + 12) (omega arith)
 
 pub signal-at-spec : {M : Type 1} → statement M
-signal-at-spec = tie.close (tie.spec line-place-requires add-number-at number-at-requires returns)
+signal-at-spec = tie.close (tie.spec (λ c κs. search needs) (λ c. search needs) number-at-requires returns)

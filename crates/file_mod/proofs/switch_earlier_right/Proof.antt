@@ -8,11 +8,8 @@ use Rattle.file_mod.proofs.switch_earlier_right.Tie as tie
 returns : tie.Need-returns
 returns c = sym (reads-switch-earlier _ _ _ _ _ _ ∙ equal-stops _ _ _ _ refl (c .if1 .taken))
 
-sent-right-requires : tie.Need-sent-right-requires
-sent-right-requires c κs = search needs
-
 returns-2 : tie.Need-returns-2
 returns-2 c = c .sent-right .ensures ∙ sym (reads-switch-earlier _ _ _ _ _ _ ∙ equal-goes-on _ _ _ _ refl (c .before .if1 .left))
 
 pub switch-earlier-right-spec : {M : Type 1} → statement M
-switch-earlier-right-spec = tie.close (tie.spec returns sent-right-requires returns-2)
+switch-earlier-right-spec = tie.close (tie.spec returns (λ c κs. search needs) returns-2)

@@ -8,15 +8,9 @@ use Rattle.file_mod.proofs.switch_present_right.Tie as tie
 returns : tie.Need-returns
 returns c = sym (reads-switch-present _ _ _ _ _ _ ∙ low-stops _ _ _ (c .if1 .taken))
 
-wanted-send-requires : tie.Need-wanted-send-requires
-wanted-send-requires c κs = search needs
-
-sent-right-requires : tie.Need-sent-right-requires
-sent-right-requires c κs = search needs
-
 returns-2 : tie.Need-returns-2
 returns-2 c = c .sent-right .ensures ∙ (rw (c .before .wanted-send .ensures .0) (sym (reads-switch-present _ _ _ _ _ _ ∙ low-goes-on _ _ _ (c .before .before .if1 .left))))
 
 pub switch-present-right-spec : {M : Type 1} → statement M
 switch-present-right-spec =
-    tie.close (tie.spec returns wanted-send-requires sent-right-requires returns-2)
+    tie.close (tie.spec returns (λ c κs. search needs) (λ c κs. search needs) returns-2)

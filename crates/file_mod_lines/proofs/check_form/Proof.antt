@@ -5,12 +5,6 @@ use borrow.Author.Needs.{needs}
 use Rattle.file_mod_lines.proofs.check_form.Statement.{statement}
 use Rattle.file_mod_lines.proofs.check_form.Tie as tie
 
-check-header-requires : tie.Need-check-header-requires
-check-header-requires c κs = search needs
-
-enum-known-header : tie.Need-enum-known-header
-enum-known-header c = search needs
-
 returns : tie.Need-returns
 returns c n of-size =
     let check-header = c .before .check-header in
@@ -25,9 +19,6 @@ check-lines-requires c κs =
     let header-pass = passed _ _ _ _ _ _ (check-header .ensures) (header .given .1) in
     let sizes = sizes-of _ _ _ _ _ _ (check-header .ensures) (header .given .1) in
     header-sized _ _ _ header-pass (sizes .0) (sizes .1)
-
-enum-told : tie.Need-enum-told
-enum-told c = search needs
 
 returns-2 : tie.Need-returns-2
 returns-2 c n of-size =
@@ -60,11 +51,11 @@ pub check-form-spec : {M : Type 1} → statement M
 check-form-spec =
     tie.close
     (tie.spec
-    check-header-requires
-    enum-known-header
+    (λ c κs. search needs)
+    (λ c. search needs)
     returns
     check-lines-requires
-    enum-told
+    (λ c. search needs)
     returns-2
     check-surplus-requires
     returns-3)

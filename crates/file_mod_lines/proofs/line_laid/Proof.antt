@@ -114,9 +114,6 @@ number-at-requires-4 c κs =
     let s = c .before .before .before .before .before .before .before .before .before .before .before in
     field-of-line _ (s .args .at) 14 (s .pre) 13 (s .args .at + 78) (omega arith) (omega arith)
 
-sender-right-requires : tie.Need-sender-right-requires
-sender-right-requires c κs = search needs
-
 returns-6 : tie.Need-returns-6
 unfolding lineAt
 returns-6 c =
@@ -151,5 +148,5 @@ line-laid-spec =
     returns-5
     add-number-at-3
     number-at-requires-4
-    sender-right-requires
+    (λ c κs. search needs)
     returns-6)

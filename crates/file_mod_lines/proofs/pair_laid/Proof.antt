@@ -4,17 +4,8 @@ use borrow.Author.Needs.{needs}
 use Rattle.file_mod_lines.proofs.pair_laid.Statement.{statement}
 use Rattle.file_mod_lines.proofs.pair_laid.Tie as tie
 
-number-at-requires : tie.Need-number-at-requires
-number-at-requires c κs = search needs
-
 add-number-at : tie.Need-add-number-at
 add-number-at c = let a = c .before .before in omega (arith, field-length (a .args .modfile .now) (a .args .at) (a .pre .0))
-
-number-at-requires-2 : tie.Need-number-at-requires-2
-number-at-requires-2 c κs = search needs
-
-pair-right-requires : tie.Need-pair-right-requires
-pair-right-requires c κs = search needs
 
 returns : tie.Need-returns
 returns c = (cc)
@@ -22,4 +13,4 @@ returns c = (cc)
 pub pair-laid-spec : {M : Type 1} → statement M
 pair-laid-spec =
     tie.close
-    (tie.spec number-at-requires add-number-at number-at-requires-2 pair-right-requires returns)
+    (tie.spec (λ c κs. search needs) add-number-at (λ c κs. search needs) (λ c κs. search needs) returns)

@@ -21,12 +21,6 @@ loop-holds : tie.Need-loop-holds Inv-loop μ-loop
 unfolding all
 loop-holds c = search needs
 
-mul-number-at : tie.Need-mul-number-at Inv-loop μ-loop
-mul-number-at c = search needs
-
-add-number-at : tie.Need-add-number-at Inv-loop μ-loop
-add-number-at c = search needs
-
 number-at-requires : tie.Need-number-at-requires Inv-loop μ-loop
 number-at-requires c κs =
     let s = c .before .before .before in
@@ -39,12 +33,6 @@ returns c =
     let number-at = c .before .number-at in
     let if1 = c .if1 in
     sym (zeros-stop _ _ (loop-test .taken) (λ e. if1 .taken (number-at .ensures ∙ e)))
-
-add-k : tie.Need-add-k Inv-loop μ-loop
-add-k c = search needs
-
-loop-less : tie.Need-loop-less Inv-loop μ-loop
-loop-less c = search needs
 
 loop-again : tie.Need-loop-again Inv-loop μ-loop
 loop-again c =
@@ -63,11 +51,11 @@ twelve-zeros-spec =
     Inv-loop
     μ-loop
     loop-holds
-    mul-number-at
-    add-number-at
+    (λ c. search needs)
+    (λ c. search needs)
     number-at-requires
     returns
-    add-k
-    loop-less
+    (λ c. search needs)
+    (λ c. search needs)
     loop-again
     returns-2)

@@ -3,12 +3,6 @@ use borrow.Author.Needs.{needs}
 use Rattle.file_net.proofs.answer_of.Statement.{statement}
 use Rattle.file_net.proofs.answer_of.Tie as tie
 
-add-line : tie.Need-add-line
-add-line c = search needs
-
-cast-line : tie.Need-cast-line
-cast-line c = search needs
-
 returns : tie.Need-returns
 returns c = search (needs, decided)
 
@@ -22,4 +16,4 @@ returns-4 : tie.Need-returns-4
 returns-4 c = search (needs, decided)
 
 pub answer-of-spec : {M : Type 1} → statement M
-answer-of-spec = tie.close (tie.spec add-line cast-line returns returns-2 returns-3 returns-4)
+answer-of-spec = tie.close (tie.spec (λ c. search needs) (λ c. search needs) returns returns-2 returns-3 returns-4)

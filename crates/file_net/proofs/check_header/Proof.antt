@@ -7,15 +7,6 @@ use borrow.Author.Needs.{needs}
 use Rattle.file_net.proofs.check_header.Statement.{statement}
 use Rattle.file_net.proofs.check_header.Tie as tie
 
-read-line-requires : tie.Need-read-line-requires
-read-line-requires c κs = search needs
-
-enum-told : tie.Need-enum-told
-enum-told c = search needs
-
-enum-told-2 : tie.Need-enum-told-2
-enum-told-2 c = search needs
-
 returns : tie.Need-returns
 returns c = refused _ _ _ 10 1 refl (header-10 _ _ (line-none _ 0 12 (sym (c .before .before .read-line .ensures) ∙ c .enum-told2 .given .1)))
 
@@ -49,9 +40,9 @@ pub check-header-spec : {M : Type 1} → statement M
 check-header-spec =
     tie.close
     (tie.spec
-    read-line-requires
-    enum-told
-    enum-told-2
+    (λ c κs. search needs)
+    (λ c. search needs)
+    (λ c. search needs)
     returns
     field-requires
     returns-2

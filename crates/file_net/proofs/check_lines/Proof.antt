@@ -33,36 +33,15 @@ lines-holds : tie.Need-lines-holds Inv-loop μ-loop Inv-lines μ-lines
 unfolding firstBelow
 lines-holds c = search needs
 
-mul-at : tie.Need-mul-at Inv-loop μ-loop Inv-lines μ-lines
-mul-at c = search needs
-
 loop-holds : tie.Need-loop-holds Inv-loop μ-loop Inv-lines μ-lines
 unfolding all
 loop-holds c = search needs
-
-read-field-requires : tie.Need-read-field-requires Inv-loop μ-loop Inv-lines μ-lines
-read-field-requires c κs = search needs
-
-enum-known-next : tie.Need-enum-known-next Inv-loop μ-loop Inv-lines μ-lines
-enum-known-next c = search needs
-
-enum-told : tie.Need-enum-told Inv-loop μ-loop Inv-lines μ-lines
-enum-told c = search needs
-
-add-column : tie.Need-add-column Inv-loop μ-loop Inv-lines μ-lines
-add-column c = search needs
-
-loop-less : tie.Need-loop-less Inv-loop μ-loop Inv-lines μ-lines
-loop-less c = search needs
 
 loop-again : tie.Need-loop-again Inv-loop μ-loop Inv-lines μ-lines
 loop-again c =
     let i = c .before .before .before .before .before .loop .inv in
     let next = line-goes-on _ _ _ _ (i .1) _ _ (i .2) (sym (c .before .before .before .read-field .ensures) ∙ c .before .next .given .1) in
     (omega arith, next .0, next .1, i .3)
-
-ends-line-requires : tie.Need-ends-line-requires Inv-loop μ-loop Inv-lines μ-lines
-ends-line-requires c κs = search needs
 
 -- the line is right where all its fields are and byte 10 ends it
 form : (c : tie.Else1 Inv-loop μ-loop Inv-lines μ-lines)
@@ -77,12 +56,6 @@ signal-layout-requires c κs = (omega arith, form c)
 sources-right-requires : tie.Need-sources-right-requires Inv-loop μ-loop Inv-lines μ-lines
 sources-right-requires c κs = (omega arith, form (c .before .before), c .before .before .before .before .before .before .before .before .before .pre .0)
 
-add-line : tie.Need-add-line Inv-loop μ-loop Inv-lines μ-lines
-add-line c = search needs
-
-lines-less : tie.Need-lines-less Inv-loop μ-loop Inv-lines μ-lines
-lines-less c = search needs
-
 lines-again : tie.Need-lines-again Inv-loop μ-loop Inv-lines μ-lines
 lines-again c =
     let i = c .before .before .before .before .before .before .before .before .before .lines .inv in (
@@ -93,9 +66,6 @@ lines-again c =
           (sym (c .before .before .before .signal-layout .ensures) ∙ not-false _ (c .before .before .if2 .left))
           (sym (c .before .sources-right .ensures) ∙ not-false _ (c .if3 .left)),
     )
-
-answer-of-requires : tie.Need-answer-of-requires Inv-loop μ-loop Inv-lines μ-lines
-answer-of-requires c κs = search needs
 
 returns : tie.Need-returns Inv-loop μ-loop Inv-lines μ-lines
 returns c =
@@ -123,19 +93,19 @@ check-lines-spec =
     Inv-lines
     μ-lines
     lines-holds
-    mul-at
+    (λ c. search needs)
     loop-holds
-    read-field-requires
-    enum-known-next
-    enum-told
-    add-column
-    loop-less
+    (λ c κs. search needs)
+    (λ c. search needs)
+    (λ c. search needs)
+    (λ c. search needs)
+    (λ c. search needs)
     loop-again
-    ends-line-requires
+    (λ c κs. search needs)
     signal-layout-requires
     sources-right-requires
-    add-line
-    lines-less
+    (λ c. search needs)
+    (λ c. search needs)
     lines-again
-    answer-of-requires
+    (λ c κs. search needs)
     returns)

@@ -6,20 +6,11 @@ use borrow.Author.Needs.{needs}
 use Rattle.file_net.proofs.feeder_of.Statement.{statement}
 use Rattle.file_net.proofs.feeder_of.Tie as tie
 
-shared-slice-read-if1 : tie.Need-shared-slice-read-if1
-shared-slice-read-if1 c = search needs
-
 returns : tie.Need-returns
 returns c = sym (feeder-other _ _ _ (c .if1 .taken))
 
-add-field : tie.Need-add-field
-add-field c = search needs
-
 field-requires : tie.Need-field-requires
 field-requires c κs = (omega (arith, c .before .before .before .before .pre .0 .small), omega arith, c .before .before .before .before .pre .0 .right _ (omega arith))
-
-cast-if2 : tie.Need-cast-if2
-cast-if2 c = search needs
 
 shared-slice-read-if2 : tie.Need-shared-slice-read-if2
 shared-slice-read-if2 c =
@@ -37,11 +28,11 @@ pub feeder-of-spec : {M : Type 1} → statement M
 feeder-of-spec =
     tie.close
     (tie.spec
-    shared-slice-read-if1
+    (λ c. search needs)
     returns
-    add-field
+    (λ c. search needs)
     field-requires
-    cast-if2
+    (λ c. search needs)
     shared-slice-read-if2
     returns-2
     returns-3)

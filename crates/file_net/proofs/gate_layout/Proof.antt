@@ -6,28 +6,16 @@ use borrow.Author.Needs.{needs}
 use Rattle.file_net.proofs.gate_layout.Statement.{statement}
 use Rattle.file_net.proofs.gate_layout.Tie as tie
 
-field-requires : tie.Need-field-requires
-field-requires c κs = search needs
-
 returns : tie.Need-returns
 returns c = sym (gate-low _ _ _ (c .before .field .ensures) (c .if1 .taken))
 
 returns-2 : tie.Need-returns-2
 returns-2 c = sym (gate-high _ _ _ (c .before .before .field .ensures) (c .if2 .taken))
 
-field-requires-2 : tie.Need-field-requires-2
-field-requires-2 c κs = search needs
-
-is-function-requires : tie.Need-is-function-requires
-is-function-requires c κs = search needs
-
 returns-3 : tie.Need-returns-3
 returns-3 c =
     sym (gate-unsupplied _ _ _ (c .before .before .before .before .before .field .ensures) (c .before .before .before .before .if1 .left) (c .before .before .before .if2 .left)
     (ap isFunction (sym (c .before .before .field2 .ensures)) ∙ sym (c .before .is-function .ensures) ∙ not-true _ (c .if3 .taken)))
-
-translations-supplied-requires : tie.Need-translations-supplied-requires
-translations-supplied-requires c κs = search needs
 
 returns-4 : tie.Need-returns-4
 returns-4 c =
@@ -39,11 +27,11 @@ pub gate-layout-spec : {M : Type 1} → statement M
 gate-layout-spec =
     tie.close
     (tie.spec
-    field-requires
+    (λ c κs. search needs)
     returns
     returns-2
-    field-requires-2
-    is-function-requires
+    (λ c κs. search needs)
+    (λ c κs. search needs)
     returns-3
-    translations-supplied-requires
+    (λ c κs. search needs)
     returns-4)

@@ -4,17 +4,11 @@ use borrow.Author.Needs.{needs}
 use Rattle.file_net.proofs.input_layout.Statement.{statement}
 use Rattle.file_net.proofs.input_layout.Tie as tie
 
-field-requires : tie.Need-field-requires
-field-requires c κs = search needs
-
 returns : tie.Need-returns
 returns c = sym (input-no _ _ _ (c .before .field .ensures) (c .if1 .taken))
-
-ten-zeros-requires : tie.Need-ten-zeros-requires
-ten-zeros-requires c κs = search needs
 
 returns-2 : tie.Need-returns-2
 returns-2 c = c .ten-zeros .ensures ∙ sym (input-zeros _ _ _ (c .before .before .field .ensures) (c .before .if1 .left))
 
 pub input-layout-spec : {M : Type 1} → statement M
-input-layout-spec = tie.close (tie.spec field-requires returns ten-zeros-requires returns-2)
+input-layout-spec = tie.close (tie.spec (λ c κs. search needs) returns (λ c κs. search needs) returns-2)

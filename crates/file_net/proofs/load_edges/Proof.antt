@@ -19,35 +19,8 @@ loop-holds : tie.Need-loop-holds Inv-loop μ-loop
 unfolding edgesTo
 loop-holds c = search needs
 
-mul-loop : tie.Need-mul-loop Inv-loop μ-loop
-mul-loop c = search needs
-
-add-feeder-of : tie.Need-add-feeder-of Inv-loop μ-loop
-add-feeder-of c = search needs
-
-feeder-of-requires : tie.Need-feeder-of-requires Inv-loop μ-loop
-feeder-of-requires c κs = search needs
-
-add-edges : tie.Need-add-edges Inv-loop μ-loop
-add-edges c = search needs
-
-mul-edges : tie.Need-mul-edges Inv-loop μ-loop
-mul-edges c = search needs
-
-slice-write-edges : tie.Need-slice-write-edges Inv-loop μ-loop
-slice-write-edges c = search needs
-
-add-k : tie.Need-add-k Inv-loop μ-loop
-add-k c = search needs
-
-loop-less : tie.Need-loop-less Inv-loop μ-loop
-loop-less c = search needs
-
 loop-again : tie.Need-loop-again Inv-loop μ-loop
 loop-again c = (omega arith, simp length-set (c .before .before .loop .inv .1), edges-more _ _ _ _ _ _ (c .before .before .loop .inv .2) (c .feeder-of .ensures))
-
-same-length : tie.Need-same-length Inv-loop μ-loop
-same-length c = search needs
 
 returns : tie.Need-returns Inv-loop μ-loop
 returns c = edges-end _ _ _ _ _ _ (c .before .loop .inv .2) (c .before .loop .inv .0) (c .loop-test .left)
@@ -59,14 +32,14 @@ load-edges-spec =
     Inv-loop
     μ-loop
     loop-holds
-    mul-loop
-    add-feeder-of
-    feeder-of-requires
-    add-edges
-    mul-edges
-    slice-write-edges
-    add-k
-    loop-less
+    (λ c. search needs)
+    (λ c. search needs)
+    (λ c κs. search needs)
+    (λ c. search needs)
+    (λ c. search needs)
+    (λ c. search needs)
+    (λ c. search needs)
+    (λ c. search needs)
     loop-again
-    same-length
+    (λ c. search needs)
     returns)

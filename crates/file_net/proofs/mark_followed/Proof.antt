@@ -19,32 +19,11 @@ loop-holds : tie.Need-loop-holds Inv-loop μ-loop
 unfolding followTo
 loop-holds c = search needs
 
-add-field : tie.Need-add-field Inv-loop μ-loop
-add-field c = search needs
-
 field-requires : tie.Need-field-requires Inv-loop μ-loop
 field-requires c κs = (omega (arith, c .before .before .before .before .pre .0 .small), omega arith, c .before .before .before .before .pre .0 .right _ (omega arith))
 
-mark-of-requires : tie.Need-mark-of-requires Inv-loop μ-loop
-mark-of-requires c κs = search needs
-
-add-follow : tie.Need-add-follow Inv-loop μ-loop
-add-follow c = search needs
-
-slice-write-follow : tie.Need-slice-write-follow Inv-loop μ-loop
-slice-write-follow c = search needs
-
-add-k : tie.Need-add-k Inv-loop μ-loop
-add-k c = search needs
-
-loop-less : tie.Need-loop-less Inv-loop μ-loop
-loop-less c = search needs
-
 loop-again : tie.Need-loop-again Inv-loop μ-loop
 loop-again c = (omega arith, simp length-set (c .before .before .before .loop .inv .1), follow-more _ _ _ _ _ _ (c .before .before .before .loop .inv .2) (c .before .field .ensures) (c .mark-of .ensures))
-
-same-length : tie.Need-same-length Inv-loop μ-loop
-same-length c = search needs
 
 returns : tie.Need-returns Inv-loop μ-loop
 returns c = follow-ends _ _ _ _ _ (c .before .loop .inv .2) (c .before .loop .inv .0) (c .loop-test .left)
@@ -56,13 +35,13 @@ mark-followed-spec =
     Inv-loop
     μ-loop
     loop-holds
-    add-field
+    (λ c. search needs)
     field-requires
-    mark-of-requires
-    add-follow
-    slice-write-follow
-    add-k
-    loop-less
+    (λ c κs. search needs)
+    (λ c. search needs)
+    (λ c. search needs)
+    (λ c. search needs)
+    (λ c. search needs)
     loop-again
-    same-length
+    (λ c. search needs)
     returns)

@@ -4,23 +4,11 @@ use borrow.Author.Needs.{needs}
 use Rattle.file_net.proofs.signal_layout.Statement.{statement}
 use Rattle.file_net.proofs.signal_layout.Tie as tie
 
-field-requires : tie.Need-field-requires
-field-requires c κs = search needs
-
-cast-if1 : tie.Need-cast-if1
-cast-if1 c = search needs
-
 returns : tie.Need-returns
 returns c = sym (layout-other _ _ _ (c .before .field .ensures) (c .if1 .taken))
 
-input-layout-requires : tie.Need-input-layout-requires
-input-layout-requires c κs = search needs
-
 returns-2 : tie.Need-returns-2
 returns-2 c = sym (layout-input _ _ _ (c .before .before .before .field .ensures) (c .before .before .if1 .left) (sym (c .before .input-layout .ensures) ∙ c .if2 .taken))
-
-gate-layout-requires : tie.Need-gate-layout-requires
-gate-layout-requires c κs = search needs
 
 returns-3 : tie.Need-returns-3
 returns-3 c =
@@ -31,10 +19,10 @@ pub signal-layout-spec : {M : Type 1} → statement M
 signal-layout-spec =
     tie.close
     (tie.spec
-    field-requires
-    cast-if1
+    (λ c κs. search needs)
+    (λ c. search needs)
     returns
-    input-layout-requires
+    (λ c κs. search needs)
     returns-2
-    gate-layout-requires
+    (λ c κs. search needs)
     returns-3)

@@ -5,26 +5,11 @@ use borrow.Author.Needs.{needs}
 use Rattle.file_net.proofs.source_right.Statement.{statement}
 use Rattle.file_net.proofs.source_right.Tie as tie
 
-add-field : tie.Need-add-field
-add-field c = search needs
-
-field-requires : tie.Need-field-requires
-field-requires c κs = search needs
-
 returns : tie.Need-returns
 returns c = sym (source-high _ _ _ _ _ (c .before .field .ensures) (c .before .before .before .pre .3) (c .if1 .taken))
 
 returns-2 : tie.Need-returns-2
 returns-2 c = sym (source-some _ _ _ _ _ (c .before .before .field .ensures) (c .before .before .before .before .pre .3) (c .before .if1 .left) (c .if2 .taken))
-
-add-field-2 : tie.Need-add-field-2
-add-field-2 c = search needs
-
-field-requires-2 : tie.Need-field-requires-2
-field-requires-2 c κs = search needs
-
-is-constant-requires : tie.Need-is-constant-requires
-is-constant-requires c κs = search needs
 
 returns-3 : tie.Need-returns-3
 returns-3 c =
@@ -35,11 +20,11 @@ pub source-right-spec : {M : Type 1} → statement M
 source-right-spec =
     tie.close
     (tie.spec
-    add-field
-    field-requires
+    (λ c. search needs)
+    (λ c κs. search needs)
     returns
     returns-2
-    add-field-2
-    field-requires-2
-    is-constant-requires
+    (λ c. search needs)
+    (λ c κs. search needs)
+    (λ c κs. search needs)
     returns-3)

@@ -17,9 +17,6 @@ Inv-loop net size line j₀ j = (j ≤ 4) × (all j (sourceRight net line) ≡ t
 abbrev μ-loop : tie.MeasureT-loop
 μ-loop net size line j₀ j = 4 - j
 
-field-requires : tie.Need-field-requires Inv-loop μ-loop
-field-requires c κs = search needs
-
 returns : tie.Need-returns Inv-loop μ-loop
 returns c = sym (sources-input _ _ _ (c .before .field .ensures) (c .if1 .taken))
 
@@ -27,19 +24,10 @@ loop-holds : tie.Need-loop-holds Inv-loop μ-loop
 unfolding all
 loop-holds c = search needs
 
-source-right-requires : tie.Need-source-right-requires Inv-loop μ-loop
-source-right-requires c κs = search needs
-
 returns-2 : tie.Need-returns-2 Inv-loop μ-loop
 returns-2 c =
     sym (sources-gate _ _ _ (c .before .before .before .before .before .field .ensures) (c .before .before .before .before .if1 .left)
     ∙ all-fails _ 4 _ (c .before .before .loop-test .taken) (sym (c .before .source-right .ensures) ∙ not-true _ (c .if2 .taken)))
-
-add-j : tie.Need-add-j Inv-loop μ-loop
-add-j c = search needs
-
-loop-less : tie.Need-loop-less Inv-loop μ-loop
-loop-less c = search needs
 
 loop-again : tie.Need-loop-again Inv-loop μ-loop
 loop-again c = (omega arith, all-more _ _ (c .before .before .before .loop .inv .1) (sym (c .before .source-right .ensures) ∙ not-false _ (c .if2 .left)))
@@ -55,12 +43,12 @@ sources-right-spec =
     (tie.spec
     Inv-loop
     μ-loop
-    field-requires
+    (λ c κs. search needs)
     returns
     loop-holds
-    source-right-requires
+    (λ c κs. search needs)
     returns-2
-    add-j
-    loop-less
+    (λ c. search needs)
+    (λ c. search needs)
     loop-again
     returns-3)

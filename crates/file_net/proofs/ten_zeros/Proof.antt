@@ -21,21 +21,9 @@ loop-holds : tie.Need-loop-holds Inv-loop μ-loop
 unfolding all
 loop-holds c = search needs
 
-add-field : tie.Need-add-field Inv-loop μ-loop
-add-field c = search needs
-
-field-requires : tie.Need-field-requires Inv-loop μ-loop
-field-requires c κs = search needs
-
 returns : tie.Need-returns Inv-loop μ-loop
 unfolding tenZeros
 returns c = sym (all-fails _ 10 _ (c .before .before .loop-test .taken) (ne-eqb _ _ (λ e. c .if1 .taken (c .before .field .ensures ∙ e))))
-
-add-k : tie.Need-add-k Inv-loop μ-loop
-add-k c = search needs
-
-loop-less : tie.Need-loop-less Inv-loop μ-loop
-loop-less c = search needs
 
 loop-again : tie.Need-loop-again Inv-loop μ-loop
 loop-again c = (omega arith, all-more _ _ (c .before .before .before .loop .inv .1) (eq-eqb _ _ (sym (c .before .field .ensures) ∙ c .if1 .left)))
@@ -51,10 +39,10 @@ ten-zeros-spec =
     Inv-loop
     μ-loop
     loop-holds
-    add-field
-    field-requires
+    (λ c. search needs)
+    (λ c κs. search needs)
     returns
-    add-k
-    loop-less
+    (λ c. search needs)
+    (λ c. search needs)
     loop-again
     returns-2)

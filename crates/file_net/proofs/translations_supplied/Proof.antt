@@ -21,23 +21,8 @@ loop-holds : tie.Need-loop-holds Inv-loop μ-loop
 unfolding all
 loop-holds c = search needs
 
-add-field : tie.Need-add-field Inv-loop μ-loop
-add-field c = search needs
-
-field-requires : tie.Need-field-requires Inv-loop μ-loop
-field-requires c κs = search needs
-
-is-translation-requires : tie.Need-is-translation-requires Inv-loop μ-loop
-is-translation-requires c κs = search needs
-
 returns : tie.Need-returns Inv-loop μ-loop
 returns c = sym (all-fails _ 5 _ (c .before .before .before .loop-test .taken) (ap isTranslation (sym (c .before .before .field .ensures)) ∙ sym (c .before .is-translation .ensures) ∙ not-true _ (c .if1 .taken)))
-
-add-k : tie.Need-add-k Inv-loop μ-loop
-add-k c = search needs
-
-loop-less : tie.Need-loop-less Inv-loop μ-loop
-loop-less c = search needs
 
 loop-again : tie.Need-loop-again Inv-loop μ-loop
 loop-again c = (omega arith, all-more _ _ (c .before .before .before .before .loop .inv .1) (ap isTranslation (sym (c .before .before .field .ensures)) ∙ sym (c .before .is-translation .ensures) ∙ not-false _ (c .if1 .left)))
@@ -52,11 +37,11 @@ translations-supplied-spec =
     Inv-loop
     μ-loop
     loop-holds
-    add-field
-    field-requires
-    is-translation-requires
+    (λ c. search needs)
+    (λ c κs. search needs)
+    (λ c κs. search needs)
     returns
-    add-k
-    loop-less
+    (λ c. search needs)
+    (λ c. search needs)
     loop-again
     returns-2)

@@ -17,26 +17,8 @@ abbrev μ-loop : tie.MeasureT-loop
 loop-holds : tie.Need-loop-holds Inv-loop μ-loop
 loop-holds c = (refl, omega arith)
 
-sub-read-at : tie.Need-sub-read-at Inv-loop μ-loop
-sub-read-at c = search needs
-
-part-read-at-start : tie.Need-part-read-at-start Inv-loop μ-loop
-part-read-at-start c = search needs
-
-part-read-at-end : tie.Need-part-read-at-end Inv-loop μ-loop
-part-read-at-end c = search needs
-
 cast-read-at : tie.Need-cast-read-at Inv-loop μ-loop
 cast-read-at c = record { sfits = omega (arith, c .before .loop-test .taken, c .before .before .loop .inv .0, c .before .before .before .before .good) }
-
-read-at-requires : tie.Need-read-at-requires Inv-loop μ-loop
-read-at-requires c κs = search needs
-
-enum-known-more : tie.Need-enum-known-more Inv-loop μ-loop
-enum-known-more c = search needs
-
-enum-told : tie.Need-enum-told Inv-loop μ-loop
-enum-told c = search needs
 
 same-length : tie.Need-same-length Inv-loop μ-loop
 same-length c =
@@ -44,9 +26,6 @@ same-length c =
     let turn = got .before .before .before in
     let k = whole-kept (turn .loop .bytes) (got .read-at .last .1 .0) (turn .loop .done) (got .read-at .kept .1 .0) in
     k ∙ turn .loop .inv .0
-
-returns : tie.Need-returns Inv-loop μ-loop
-returns c = search needs
 
 same-length-2 : tie.Need-same-length-2 Inv-loop μ-loop
 same-length-2 c =
@@ -97,15 +76,15 @@ read-whole-spec =
     Inv-loop
     μ-loop
     loop-holds
-    sub-read-at
-    part-read-at-start
-    part-read-at-end
+    (λ c. search needs)
+    (λ c. search needs)
+    (λ c. search needs)
     cast-read-at
-    read-at-requires
-    enum-known-more
-    enum-told
+    (λ c κs. search needs)
+    (λ c. search needs)
+    (λ c. search needs)
     same-length
-    returns
+    (λ c. search needs)
     same-length-2
     returns-2
     add-done

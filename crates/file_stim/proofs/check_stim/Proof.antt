@@ -37,65 +37,11 @@ lines-holds c = (refl, omega arith, reached-first _ _ _ refl refl)
 loop-holds : tie.Need-loop-holds Inv-loop μ-loop Inv-lines μ-lines
 loop-holds c = none-read _ _ _ _ refl (c .before .lines .inv .1)
 
-read-field-requires : tie.Need-read-field-requires Inv-loop μ-loop Inv-lines μ-lines
-read-field-requires c κs = search needs
-
-enum-known-n : tie.Need-enum-known-n Inv-loop μ-loop Inv-lines μ-lines
-enum-known-n c = search needs
-
-enum-told : tie.Need-enum-told Inv-loop μ-loop Inv-lines μ-lines
-enum-told c = search needs
-
-mul-numbers : tie.Need-mul-numbers Inv-loop μ-loop Inv-lines μ-lines
-mul-numbers c = search needs
-
-array-write-numbers : tie.Need-array-write-numbers Inv-loop μ-loop Inv-lines μ-lines
-array-write-numbers c = search needs
-
-add-field : tie.Need-add-field Inv-loop μ-loop Inv-lines μ-lines
-add-field c = search needs
-
-loop-less : tie.Need-loop-less Inv-loop μ-loop Inv-lines μ-lines
-loop-less c = search needs
-
 loop-again : tie.Need-loop-again Inv-loop μ-loop Inv-lines μ-lines
 loop-again c =
     let fields = c .before .before .before .before .before in
     let right = sym (c .before .before .before .read-field .ensures) ∙ c .before .n .given .1 in
     one-read _ _ _ _ _ (fields .loop .inv) (c .before .before .before .before .loop-test .taken) _ _ right
-
-ends-line-requires : tie.Need-ends-line-requires Inv-loop μ-loop Inv-lines μ-lines
-ends-line-requires c κs = search needs
-
-add-place : tie.Need-add-place Inv-loop μ-loop Inv-lines μ-lines
-add-place c = search needs
-
-array-read-t23 : tie.Need-array-read-t23 Inv-loop μ-loop Inv-lines μ-lines
-array-read-t23 c = search needs
-
-array-read-t26 : tie.Need-array-read-t26 Inv-loop μ-loop Inv-lines μ-lines
-array-read-t26 c = search needs
-
-array-read-t29 : tie.Need-array-read-t29 Inv-loop μ-loop Inv-lines μ-lines
-array-read-t29 c = search needs
-
-judge-requires : tie.Need-judge-requires Inv-loop μ-loop Inv-lines μ-lines
-judge-requires c κs = search needs
-
-enum-known-judged : tie.Need-enum-known-judged Inv-loop μ-loop Inv-lines μ-lines
-enum-known-judged c = search needs
-
-enum-told-2 : tie.Need-enum-told-2 Inv-loop μ-loop Inv-lines μ-lines
-enum-told-2 c = search needs
-
-add-index : tie.Need-add-index Inv-loop μ-loop Inv-lines μ-lines
-add-index c = search needs
-
-add-t29 : tie.Need-add-t29 Inv-loop μ-loop Inv-lines μ-lines
-add-t29 c = search needs
-
-lines-less : tie.Need-lines-less Inv-loop μ-loop Inv-lines μ-lines
-lines-less c = search needs
 
 -- behind the fields stands byte 10
 ended : (c : tie.Else1 Inv-loop μ-loop Inv-lines μ-lines)
@@ -157,25 +103,25 @@ check-stim-spec =
     μ-lines
     lines-holds
     loop-holds
-    read-field-requires
-    enum-known-n
-    enum-told
-    mul-numbers
-    array-write-numbers
-    add-field
-    loop-less
+    (λ c κs. search needs)
+    (λ c. search needs)
+    (λ c. search needs)
+    (λ c. search needs)
+    (λ c. search needs)
+    (λ c. search needs)
+    (λ c. search needs)
     loop-again
-    ends-line-requires
-    add-place
-    array-read-t23
-    array-read-t26
-    array-read-t29
-    judge-requires
-    enum-known-judged
-    enum-told-2
-    add-index
-    add-t29
-    lines-less
+    (λ c κs. search needs)
+    (λ c. search needs)
+    (λ c. search needs)
+    (λ c. search needs)
+    (λ c. search needs)
+    (λ c κs. search needs)
+    (λ c. search needs)
+    (λ c. search needs)
+    (λ c. search needs)
+    (λ c. search needs)
+    (λ c. search needs)
     lines-again
     returns
     returns-2

@@ -4,9 +4,6 @@ use Rattle.file_stim.proofs.InPlace.{kind-field, kind-is}
 use Rattle.file_stim.proofs.is_input.Statement.{statement}
 use Rattle.file_stim.proofs.is_input.Tie as tie
 
-mul-number-at : tie.Need-mul-number-at
-mul-number-at c = search needs
-
 number-at-requires : tie.Need-number-at-requires
 number-at-requires c κs = kind-field _ (c .before .pre .0) _ (c .before .pre .1)
 
@@ -14,4 +11,4 @@ returns : tie.Need-returns
 returns c = rw (kind-is, ← c .number-at .ensures)
 
 pub is-input-spec : {M : Type 1} → statement M
-is-input-spec = tie.close (tie.spec mul-number-at number-at-requires returns)
+is-input-spec = tie.close (tie.spec (λ c. search needs) number-at-requires returns)

@@ -6,9 +6,6 @@ use Rattle.file_stim.specs.Judging.{judgedEnd}
 use Rattle.file_stim.proofs.judge_end.Statement.{statement}
 use Rattle.file_stim.proofs.judge_end.Tie as tie
 
-add-t6 : tie.Need-add-t6
-add-t6 c = search needs
-
 returns : tie.Need-returns
 unfolding judgedEnd
 returns c = search (needs, decided)
@@ -17,12 +14,9 @@ returns-2 : tie.Need-returns-2
 unfolding judgedEnd
 returns-2 c = rw (le-leb _ _ (c .before .if1 .left), c .if2 .taken)
 
-add-t7 : tie.Need-add-t7
-add-t7 c = search needs
-
 returns-3 : tie.Need-returns-3
 unfolding judgedEnd
 returns-3 c = rw (le-leb _ _ (c .before .if1 .left), c .if2 .left)
 
 pub judge-end-spec : {M : Type 1} → statement M
-judge-end-spec = tie.close (tie.spec add-t6 returns returns-2 add-t7 returns-3)
+judge-end-spec = tie.close (tie.spec (λ c. search needs) returns returns-2 (λ c. search needs) returns-3)

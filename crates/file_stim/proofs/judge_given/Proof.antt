@@ -10,12 +10,6 @@ use Rattle.file_stim.proofs.Given.{no-signal, no-value, not-above, at-0
 use Rattle.file_stim.proofs.judge_given.Statement.{statement}
 use Rattle.file_stim.proofs.judge_given.Tie as tie
 
-is-signal-requires : tie.Need-is-signal-requires
-is-signal-requires c κs = search needs
-
-add-t7 : tie.Need-add-t7
-add-t7 c = search needs
-
 returns : tie.Need-returns
 returns c = sym (no-signal _ _ _ _ (sym (c .before .is-signal .ensures) ∙ not-true _ (c .if1 .taken)))
 
@@ -23,17 +17,8 @@ returns c = sym (no-signal _ _ _ _ (sym (c .before .is-signal .ensures) ∙ not-
 signal : (c : tie.Else1) → let a = c .before .before .before .args in isSignal (network (a .net .now)) (a .here .signal) ≡ true
 signal c = sym (c .before .is-signal .ensures) ∙ not-false _ (c .if1 .left)
 
-add-t9 : tie.Need-add-t9
-add-t9 c = search needs
-
 returns-2 : tie.Need-returns-2
 returns-2 c = sym (no-value _ _ _ _ (signal (c .before .before)) (c .if2 .taken))
-
-is-above-requires : tie.Need-is-above-requires
-is-above-requires c κs = search needs
-
-add-t11 : tie.Need-add-t11
-add-t11 c = search needs
 
 returns-3 : tie.Need-returns-3
 returns-3 c =
@@ -62,9 +47,6 @@ returns-5 c =
     let v = a .before .before in
     sym (later-input _ _ _ _ (signal (v .before .before)) (v .if2 .left) (above a) (t .if4 .left) (sym (c .before .is-input .ensures) ∙ c .if5 .taken))
 
-add-t14 : tie.Need-add-t14
-add-t14 c = search needs
-
 returns-6 : tie.Need-returns-6
 returns-6 c =
     let t = c .before .before in
@@ -76,16 +58,16 @@ pub judge-given-spec : {M : Type 1} → statement M
 judge-given-spec =
     tie.close
     (tie.spec
-    is-signal-requires
-    add-t7
+    (λ c κs. search needs)
+    (λ c. search needs)
     returns
-    add-t9
+    (λ c. search needs)
     returns-2
-    is-above-requires
-    add-t11
+    (λ c κs. search needs)
+    (λ c. search needs)
     returns-3
     returns-4
     is-input-requires
     returns-5
-    add-t14
+    (λ c. search needs)
     returns-6)

@@ -4,15 +4,9 @@ use borrow.Author.Needs.{needs}
 use Rattle.gates.proofs.apply.Statement.{statement}
 use Rattle.gates.proofs.apply.Tie as tie
 
-and4-requires : tie.Need-and4-requires
-and4-requires c κs = search needs
-
 returns : tie.Need-returns
 unfolding function
 returns c = search (needs, decided)
-
-xor4-requires : tie.Need-xor4-requires
-xor4-requires c κs = search needs
 
 returns-2 : tie.Need-returns-2
 unfolding function
@@ -22,15 +16,9 @@ returns-3 : tie.Need-returns-3
 unfolding function
 returns-3 c = search (needs, decided)
 
-select-requires : tie.Need-select-requires
-select-requires c κs = search needs
-
 returns-4 : tie.Need-returns-4
 unfolding function
 returns-4 c = search (needs, decided)
-
-majority3-requires : tie.Need-majority3-requires
-majority3-requires c κs = search needs
 
 returns-5 : tie.Need-returns-5
 unfolding function
@@ -44,13 +32,13 @@ pub apply-spec : {M : Type 1} → statement M
 apply-spec =
     tie.close
     (tie.spec
-    and4-requires
+    (λ c κs. search needs)
     returns
-    xor4-requires
+    (λ c κs. search needs)
     returns-2
     returns-3
-    select-requires
+    (λ c κs. search needs)
     returns-4
-    majority3-requires
+    (λ c κs. search needs)
     returns-5
     returns-6)

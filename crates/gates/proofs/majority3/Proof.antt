@@ -5,12 +5,6 @@ use borrow.Author.Needs.{needs}
 use Rattle.gates.proofs.majority3.Statement.{statement}
 use Rattle.gates.proofs.majority3.Tie as tie
 
-occurrences-requires : tie.Need-occurrences-requires
-occurrences-requires c κs = search needs
-
-occurrences-requires-2 : tie.Need-occurrences-requires-2
-occurrences-requires-2 c κs = search needs
-
 returns : tie.Need-returns
 returns c = sym (majority-zero _ _ _ (omega arith))
 
@@ -22,4 +16,4 @@ returns-3 c = sym (majority-else _ _ _ (omega arith) (omega arith))
 
 pub majority3-spec : {M : Type 1} → statement M
 majority3-spec =
-    tie.close (tie.spec occurrences-requires occurrences-requires-2 returns returns-2 returns-3)
+    tie.close (tie.spec (λ c κs. search needs) (λ c κs. search needs) returns returns-2 returns-3)

@@ -16,28 +16,10 @@ Inv-loop ranks₀ k₀ ranks k = (k ≤ length ranks₀) × (length ranks ≡ le
 abbrev μ-loop : tie.MeasureT-loop
 μ-loop ranks₀ k₀ ranks k = length ranks₀ - k
 
-loop-holds : tie.Need-loop-holds Inv-loop μ-loop
-loop-holds c = search needs
-
-mul-ranks : tie.Need-mul-ranks Inv-loop μ-loop
-mul-ranks c = search needs
-
-slice-write-ranks : tie.Need-slice-write-ranks Inv-loop μ-loop
-slice-write-ranks c = search needs
-
-add-k : tie.Need-add-k Inv-loop μ-loop
-add-k c = search needs
-
-loop-less : tie.Need-loop-less Inv-loop μ-loop
-loop-less c = search needs
-
 loop-again : tie.Need-loop-again Inv-loop μ-loop
 loop-again c =
     let i = c .before .loop .inv in
     (omega arith, simp length-set (i .1), ap (λ (l : List ℕ). set l (c .before .loop .k) 0) (i .2) ∙ fill-more (c .before .loop .k) 0 (c .before .before .args .ranks .now) (omega arith))
-
-same-length : tie.Need-same-length Inv-loop μ-loop
-same-length c = search needs
 
 returns : tie.Need-returns Inv-loop μ-loop
 returns c = let i = c .before .loop .inv in cleared (c .before .before .args .ranks .now) _ (c .before .loop .k) (omega arith) (i .2)
@@ -48,11 +30,11 @@ clear-spec =
     (tie.spec
     Inv-loop
     μ-loop
-    loop-holds
-    mul-ranks
-    slice-write-ranks
-    add-k
-    loop-less
+    (λ c. search needs)
+    (λ c. search needs)
+    (λ c. search needs)
+    (λ c. search needs)
+    (λ c. search needs)
     loop-again
-    same-length
+    (λ c. search needs)
     returns)

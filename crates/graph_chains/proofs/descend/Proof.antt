@@ -7,15 +7,6 @@ use borrow.Author.Needs.{needs}
 use Rattle.graph_chains.proofs.descend.Statement.{statement}
 use Rattle.graph_chains.proofs.descend.Tie as tie
 
-sub-y : tie.Need-sub-y
-sub-y c = search needs
-
-mul-y : tie.Need-mul-y
-mul-y c = search needs
-
-slice-read-y : tie.Need-slice-read-y
-slice-read-y c = search needs
-
 cast-y : tie.Need-cast-y
 cast-y c =
     let s = c .before .before .before .before .before in
@@ -28,21 +19,6 @@ open-feeder-requires c κs =
     let top = s .pre .1 .1 .0 .high (s .args .depth - 1) (omega (arith, s .pre .1 .1 .1)) in
     (s .pre .0 .each, (s .pre .1 .0 .long, top))
 
-mul-way : tie.Need-mul-way
-mul-way c = search needs
-
-slice-write-way : tie.Need-slice-write-way
-slice-write-way c = search needs
-
-add-result : tie.Need-add-result
-add-result c = search needs
-
-same-length : tie.Need-same-length
-same-length c = search needs
-
-same-length-2 : tie.Need-same-length-2
-same-length-2 c = search needs
-
 returns : tie.Need-returns
 returns c =
     let p = c .before .before .before .before .before .before .before .before .pre in
@@ -54,12 +30,6 @@ visit-requires c κs =
     let top = s .pre .1 .1 .0 .high (s .args .depth - 1) (omega (arith, s .pre .1 .1 .1)) in
     (s .pre .0, (s .pre .1 .0, (top, omega arith)))
 
-sub-result : tie.Need-sub-result
-sub-result c = search needs
-
-same-length-3 : tie.Need-same-length-3
-same-length-3 c = search needs
-
 returns-2 : tie.Need-returns-2
 returns-2 c =
     let p = c .before .before .before .before .before .before .before .before .before .before .before .before .pre in
@@ -69,18 +39,18 @@ pub descend-spec : {M : Type 1} → statement M
 descend-spec =
     tie.close
     (tie.spec
-    sub-y
-    mul-y
-    slice-read-y
+    (λ c. search needs)
+    (λ c. search needs)
+    (λ c. search needs)
     cast-y
     open-feeder-requires
-    mul-way
-    slice-write-way
-    add-result
-    same-length
-    same-length-2
+    (λ c. search needs)
+    (λ c. search needs)
+    (λ c. search needs)
+    (λ c. search needs)
+    (λ c. search needs)
     returns
     visit-requires
-    sub-result
-    same-length-3
+    (λ c. search needs)
+    (λ c. search needs)
     returns-2)

@@ -13,34 +13,10 @@ Inv-loop follow edges size ranks s₀ s =
 abbrev μ-loop : tie.MeasureT-loop
 μ-loop follow edges size ranks s₀ s = size + 1 - s
 
-slice-aggregate-rank-all : tie.Need-slice-aggregate-rank-all Inv-loop μ-loop
-slice-aggregate-rank-all c = search needs
-
-rank-all-requires : tie.Need-rank-all-requires Inv-loop μ-loop
-rank-all-requires c κs = search needs
-
-loop-holds : tie.Need-loop-holds Inv-loop μ-loop
-loop-holds c = search needs
-
-slice-aggregate-on-loop : tie.Need-slice-aggregate-on-loop Inv-loop μ-loop
-slice-aggregate-on-loop c = search needs
-
-on-loop-requires : tie.Need-on-loop-requires Inv-loop μ-loop
-on-loop-requires c κs = search needs
-
-cast-result : tie.Need-cast-result Inv-loop μ-loop
-cast-result c = search needs
-
 returns : tie.Need-returns Inv-loop μ-loop
 returns c =
     let i = c .before .before .before .before .loop .inv in
     first-found _ _ (i .0) (c .before .before .before .loop-test .taken) (i .2) (c .before .on-loop .ensures) (c .if1 .taken)
-
-add-s : tie.Need-add-s Inv-loop μ-loop
-add-s c = search needs
-
-loop-less : tie.Need-loop-less Inv-loop μ-loop
-loop-less c = search needs
 
 loop-again : tie.Need-loop-again Inv-loop μ-loop
 loop-again c =
@@ -56,14 +32,14 @@ first-loop-spec =
     (tie.spec
     Inv-loop
     μ-loop
-    slice-aggregate-rank-all
-    rank-all-requires
-    loop-holds
-    slice-aggregate-on-loop
-    on-loop-requires
-    cast-result
+    (λ c. search needs)
+    (λ c κs. search needs)
+    (λ c. search needs)
+    (λ c. search needs)
+    (λ c κs. search needs)
+    (λ c. search needs)
     returns
-    add-s
-    loop-less
+    (λ c. search needs)
+    (λ c. search needs)
     loop-again
     returns-2)

@@ -18,31 +18,10 @@ abbrev μ-loop : tie.MeasureT-loop
 loop-holds : tie.Need-loop-holds Inv-loop μ-loop
 loop-holds c = (omega arith, refl, λ k h. absurd (omega arith))
 
-add-way : tie.Need-add-way Inv-loop μ-loop
-add-way c = search needs
-
-cast-way : tie.Need-cast-way Inv-loop μ-loop
-cast-way c = search needs
-
-mul-way : tie.Need-mul-way Inv-loop μ-loop
-mul-way c = search needs
-
-slice-write-way : tie.Need-slice-write-way Inv-loop μ-loop
-slice-write-way c = search needs
-
-add-k : tie.Need-add-k Inv-loop μ-loop
-add-k c = search needs
-
-loop-less : tie.Need-loop-less Inv-loop μ-loop
-loop-less c = search needs
-
 loop-again : tie.Need-loop-again Inv-loop μ-loop
 loop-again c =
     let l = c .before .loop in
     (omega arith, simp length-set (l .inv .1), lined-up-more (l .way) (l .k) (omega arith) (l .inv .2))
-
-same-length : tie.Need-same-length Inv-loop μ-loop
-same-length c = search needs
 
 returns : tie.Need-returns Inv-loop μ-loop
 returns c = λ k h. c .before .loop .inv .2 k (omega arith)
@@ -54,12 +33,12 @@ line-up-spec =
     Inv-loop
     μ-loop
     loop-holds
-    add-way
-    cast-way
-    mul-way
-    slice-write-way
-    add-k
-    loop-less
+    (λ c. search needs)
+    (λ c. search needs)
+    (λ c. search needs)
+    (λ c. search needs)
+    (λ c. search needs)
+    (λ c. search needs)
     loop-again
-    same-length
+    (λ c. search needs)
     returns)

@@ -9,12 +9,6 @@ returns : tie.Need-returns
 unfolding opened
 returns c = search (needs, decided)
 
-mul-if2 : tie.Need-mul-if2
-mul-if2 c = search needs
-
-shared-slice-read-if2 : tie.Need-shared-slice-read-if2
-shared-slice-read-if2 c = search needs
-
 returns-2 : tie.Need-returns-2
 unfolding opened
 returns-2 c = search (needs, decided)
@@ -24,4 +18,4 @@ unfolding opened
 returns-3 c = search (needs, decided)
 
 pub open-or-spec : {M : Type 1} → statement M
-open-or-spec = tie.close (tie.spec returns mul-if2 shared-slice-read-if2 returns-2 returns-3)
+open-or-spec = tie.close (tie.spec returns (λ c. search needs) (λ c. search needs) returns-2 returns-3)

@@ -9,29 +9,11 @@ use Rattle.graph_chains.proofs.push.Tie as tie
 returns : tie.Need-returns
 returns c = push-answers _ _ _ (c .before .pre .0) (c .before .pre .1) (push-none _ _ (c .if1 .taken))
 
-slice-read-if2 : tie.Need-slice-read-if2
-slice-read-if2 c = search needs
-
 returns-2 : tie.Need-returns-2
 returns-2 c = let p = c .before .before .before .pre in push-answers _ _ _ (p .0) (p .1) (push-old _ _ (c .before .before .if1 .left) (c .if2 .taken))
 
-slice-write-marks : tie.Need-slice-write-marks
-slice-write-marks c = search needs
-
-mul-stack : tie.Need-mul-stack
-mul-stack c = search needs
-
 slice-write-stack : tie.Need-slice-write-stack
 slice-write-stack c = let a = c .before .before .before .args in omega (arith, zeros-at (a .marks .now) (a .x) (omega arith) (c .if2 .left))
-
-add-result : tie.Need-add-result
-add-result c = search needs
-
-same-length : tie.Need-same-length
-same-length c = search needs
-
-same-length-2 : tie.Need-same-length-2
-same-length-2 c = search needs
 
 returns-3 : tie.Need-returns-3
 returns-3 c = let p = c .before .before .before .pre in push-answers _ _ _ (p .0) (p .1) (push-new _ _ (c .before .before .if1 .left) (c .if2 .left))
@@ -41,12 +23,12 @@ push-spec =
     tie.close
     (tie.spec
     returns
-    slice-read-if2
+    (λ c. search needs)
     returns-2
-    slice-write-marks
-    mul-stack
+    (λ c. search needs)
+    (λ c. search needs)
     slice-write-stack
-    add-result
-    same-length
-    same-length-2
+    (λ c. search needs)
+    (λ c. search needs)
+    (λ c. search needs)
     returns-3)

@@ -13,18 +13,9 @@ returns-2 : tie.Need-returns-2
 unfolding raised
 returns-2 c = search (needs, decided)
 
-mul-below : tie.Need-mul-below
-mul-below c = search needs
-
-shared-slice-read-below : tie.Need-shared-slice-read-below
-shared-slice-read-below c = search needs
-
 returns-3 : tie.Need-returns-3
 unfolding raised
 returns-3 c = search (needs, decided)
-
-add-result : tie.Need-add-result
-add-result c = search needs
 
 returns-4 : tie.Need-returns-4
 unfolding raised
@@ -40,9 +31,9 @@ raise-spec =
     (tie.spec
     returns
     returns-2
-    mul-below
-    shared-slice-read-below
+    (λ c. search needs)
+    (λ c. search needs)
     returns-3
-    add-result
+    (λ c. search needs)
     returns-4
     returns-5)

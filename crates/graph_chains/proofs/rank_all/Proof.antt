@@ -17,9 +17,6 @@ Inv-loop follow edges size ranks₀ count₀ ranks count =
 abbrev μ-loop : tie.MeasureT-loop
 μ-loop follow edges size ranks₀ count₀ ranks count = zeros ranks + min count 1
 
-clear-requires : tie.Need-clear-requires Inv-loop μ-loop
-clear-requires c κs = search needs
-
 rank-deep-requires : tie.Need-rank-deep-requires Inv-loop μ-loop
 rank-deep-requires c κs =
     let s = c .before .before .before .before .before .before .before .before in
@@ -52,7 +49,7 @@ rank-all-spec =
     (tie.spec
     Inv-loop
     μ-loop
-    clear-requires
+    (λ c κs. search needs)
     rank-deep-requires
     loop-holds
     visit-all-requires

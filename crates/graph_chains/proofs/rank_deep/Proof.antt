@@ -17,12 +17,6 @@ Inv-loop follow edges size ranks₀ way₀ depth₀ steps₀ ranks way depth ste
 abbrev μ-loop : tie.MeasureT-loop
 μ-loop follow edges size ranks₀ way₀ depth₀ steps₀ ranks way depth steps = 12288 - steps
 
-slice-aggregate-line-up : tie.Need-slice-aggregate-line-up Inv-loop μ-loop
-slice-aggregate-line-up c = search needs
-
-line-up-requires : tie.Need-line-up-requires Inv-loop μ-loop
-line-up-requires c κs = search needs
-
 loop-holds : tie.Need-loop-holds Inv-loop μ-loop
 loop-holds c = (
   c .before .line-up .kept .0 ∙ length-replicate {A = ℕ} 16384 0,
@@ -38,21 +32,12 @@ same-length c = c .before .before .loop .inv .1 .long ∙ sym (c .before .before
 returns : tie.Need-returns Inv-loop μ-loop
 returns c = c .before .before .loop .inv .1
 
-slice-aggregate-descend : tie.Need-slice-aggregate-descend Inv-loop μ-loop
-slice-aggregate-descend c = search needs
-
 descend-requires : tie.Need-descend-requires Inv-loop μ-loop
 descend-requires c κs =
     let i = c .before .before .before .before .loop .inv in
     let s = c .before .before .before .before .before .before .before .before .before .before .before in
     let some = c .before .before .if1 .left in
     (s .pre .0, (i .1, (i .2, (omega arith, omega (arith, s .pre .0 .each .small)))))
-
-add-steps : tie.Need-add-steps Inv-loop μ-loop
-add-steps c = search needs
-
-loop-less : tie.Need-loop-less Inv-loop μ-loop
-loop-less c = search needs
 
 loop-again : tie.Need-loop-again Inv-loop μ-loop
 loop-again c =
@@ -72,15 +57,15 @@ rank-deep-spec =
     (tie.spec
     Inv-loop
     μ-loop
-    slice-aggregate-line-up
-    line-up-requires
+    (λ c. search needs)
+    (λ c κs. search needs)
     loop-holds
     same-length
     returns
-    slice-aggregate-descend
+    (λ c. search needs)
     descend-requires
-    add-steps
-    loop-less
+    (λ c. search needs)
+    (λ c. search needs)
     loop-again
     same-length-2
     returns-2)

@@ -14,38 +14,14 @@ Inv-loop edges size s marks₀ stack₀ depth₀ marks stack depth = Searching e
 abbrev μ-loop : tie.MeasureT-loop
 μ-loop edges size s marks₀ stack₀ depth₀ marks stack depth = left-over (state marks stack depth)
 
-slice-aggregate-push-feeders : tie.Need-slice-aggregate-push-feeders Inv-loop μ-loop
-slice-aggregate-push-feeders c = search needs
-
-slice-aggregate-push-feeders-2 : tie.Need-slice-aggregate-push-feeders-2 Inv-loop μ-loop
-slice-aggregate-push-feeders-2 c = search needs
-
 push-feeders-requires : tie.Need-push-feeders-requires Inv-loop μ-loop
 push-feeders-requires c κs = let p = c .before .before .before .pre in (p .0, (blank-room, p .1))
 
 loop-holds : tie.Need-loop-holds Inv-loop μ-loop
 loop-holds c = first-turn _ _ (c .before .before .before .before .before .before .pre .0) _ _ (c .before .before .push-feeders .ensures .0)
 
-sub-y : tie.Need-sub-y Inv-loop μ-loop
-sub-y c = search needs
-
-mul-y : tie.Need-mul-y Inv-loop μ-loop
-mul-y c = search needs
-
-array-read-y : tie.Need-array-read-y Inv-loop μ-loop
-array-read-y c = search needs
-
 cast-y : tie.Need-cast-y Inv-loop μ-loop
 cast-y c = let l = c .before .loop in omega (arith, l .inv .within (l .depth - 1), c .before .before .before .before .before .before .before .before .pre .0 .small)
-
-slice-aggregate-push-feeders-3 : tie.Need-slice-aggregate-push-feeders-3 Inv-loop μ-loop
-slice-aggregate-push-feeders-3 c = search needs
-
-slice-aggregate-push-feeders-4 : tie.Need-slice-aggregate-push-feeders-4 Inv-loop μ-loop
-slice-aggregate-push-feeders-4 c = search needs
-
-sub-push-feeders : tie.Need-sub-push-feeders Inv-loop μ-loop
-sub-push-feeders c = search needs
 
 push-feeders-requires-2 : tie.Need-push-feeders-requires-2 Inv-loop μ-loop
 push-feeders-requires-2 c κs =
@@ -62,9 +38,6 @@ loop-again c =
     let l = c .before .before .before .before .before .before .loop in
     next-turn _ _ (c .before .before .before .before .before .before .before .before .before .before .before .before .before .pre .0) _ (state (l .marks) (l .stack) (l .depth)) _ _ (omega arith) (l .inv) (c .before .before .push-feeders2 .ensures .0)
 
-array-read-result : tie.Need-array-read-result Inv-loop μ-loop
-array-read-result c = search needs
-
 returns : tie.Need-returns Inv-loop μ-loop
 returns c = let i = c .before .loop .inv in search-tells _ _ _ _ i (omega arith)
 
@@ -74,19 +47,19 @@ reaches-itself-spec =
     (tie.spec
     Inv-loop
     μ-loop
-    slice-aggregate-push-feeders
-    slice-aggregate-push-feeders-2
+    (λ c. search needs)
+    (λ c. search needs)
     push-feeders-requires
     loop-holds
-    sub-y
-    mul-y
-    array-read-y
+    (λ c. search needs)
+    (λ c. search needs)
+    (λ c. search needs)
     cast-y
-    slice-aggregate-push-feeders-3
-    slice-aggregate-push-feeders-4
-    sub-push-feeders
+    (λ c. search needs)
+    (λ c. search needs)
+    (λ c. search needs)
     push-feeders-requires-2
     loop-less
     loop-again
-    array-read-result
+    (λ c. search needs)
     returns)

@@ -20,9 +20,6 @@ loop-holds : tie.Need-loop-holds Inv-loop μ-loop
 unfolding passedTo
 loop-holds c = (omega arith, refl, refl)
 
-add-visit : tie.Need-add-visit Inv-loop μ-loop
-add-visit c = search needs
-
 visit-requires : tie.Need-visit-requires Inv-loop μ-loop
 visit-requires c κs =
     let l = c .before .before .loop in
@@ -30,20 +27,11 @@ visit-requires c κs =
     let ready = pass-ready _ _ _ (p .0) _ (p .1) _ (l .inv .0) _ (l .inv .2) in
     (p .0, (ready .0, (omega arith, ready .1)))
 
-add-k : tie.Need-add-k Inv-loop μ-loop
-add-k c = search needs
-
-loop-less : tie.Need-loop-less Inv-loop μ-loop
-loop-less c = search needs
-
 loop-again : tie.Need-loop-again Inv-loop μ-loop
 loop-again c =
     let i = c .before .before .before .before .before .loop .inv in
     let v = c .before .before .visit in
     (omega arith, v .kept .1 .1 .1 .0 ∙ i .1, pass-more _ _ _ _ _ _ (i .2) (v .ensures))
-
-same-length : tie.Need-same-length Inv-loop μ-loop
-same-length c = search needs
 
 returns : tie.Need-returns Inv-loop μ-loop
 returns c =
@@ -58,10 +46,10 @@ visit-all-spec =
     Inv-loop
     μ-loop
     loop-holds
-    add-visit
+    (λ c. search needs)
     visit-requires
-    add-k
-    loop-less
+    (λ c. search needs)
+    (λ c. search needs)
     loop-again
-    same-length
+    (λ c. search needs)
     returns)

@@ -9,12 +9,6 @@ use Rattle.listing.proofs.end_time.Tie as tie
 next-requires : tie.Need-next-requires
 next-requires c κs = line-right _ _ (c .before .pre .0 .passes) _ (omega (arith, c .before .pre .1))
 
-enum-told : tie.Need-enum-told
-enum-told c = search needs
-
-enum-known-time : tie.Need-enum-known-time
-enum-known-time c = search needs
-
 returns : tie.Need-returns
 returns c =
     let s = c .before .before .before .before in
@@ -27,4 +21,4 @@ returns-2 c =
     end-at _ _ (s .pre .0 .passes) _ (omega (arith, s .pre .1)) _ (sym (c .before .before .before .next .ensures) ∙ c .before .time .given .1) .1
 
 pub end-time-spec : {M : Type 1} → statement M
-end-time-spec = tie.close (tie.spec next-requires enum-told enum-known-time returns returns-2)
+end-time-spec = tie.close (tie.spec next-requires (λ c. search needs) (λ c. search needs) returns returns-2)

@@ -21,12 +21,6 @@ loop-holds c = record { few = omega arith; earlier = λ k l. absurd (omega arith
 next-requires : tie.Need-next-requires Inv-loop μ-loop
 next-requires c κs = line-right _ _ (c .before .before .pre .passes) _ (c .loop .inv .few)
 
-enum-known-time : tie.Need-enum-known-time Inv-loop μ-loop
-enum-known-time c = search needs
-
-enum-told : tie.Need-enum-told Inv-loop μ-loop
-enum-told c = search needs
-
 returns : tie.Need-returns Inv-loop μ-loop
 returns c =
     let i = c .before .before .before .loop .inv in
@@ -55,8 +49,8 @@ first-later-spec =
     μ-loop
     loop-holds
     next-requires
-    enum-known-time
-    enum-told
+    (λ c. search needs)
+    (λ c. search needs)
     returns
     returns-2
     loop-less

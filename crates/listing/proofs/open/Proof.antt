@@ -16,12 +16,6 @@ load-requires c κs =
     let z = s .pre .1 .1 in
     (net-accepted panelLimit _ (s .pre .0), (mod-accepted panelLimit _ (s .pre .0), (stim-accepted panelLimit _ (s .pre .0), (z .0, z .1, z .2))))
 
-fill-requires : tie.Need-fill-requires
-fill-requires c κs = search needs
-
-decode-requires : tie.Need-decode-requires
-decode-requires c κs = search needs
-
 first-later-requires : tie.Need-first-later-requires
 first-later-requires c κs =
     let s = c .before .before .before .before .before .before .before .before .before .before .before .before .before .before .before .before .before .before .before .before .before .before .before in
@@ -31,18 +25,6 @@ end-time-requires : tie.Need-end-time-requires
 end-time-requires c κs =
     let s = c .before .before .before .before .before .before .before .before .before .before .before .before .before .before .before .before .before .before .before .before .before .before .before .before in
     (accepted-stimulus _ (s .pre .0), s .pre .1 .0)
-
-same-length : tie.Need-same-length
-same-length c = search needs
-
-same-length-2 : tie.Need-same-length-2
-same-length-2 c = search needs
-
-same-length-3 : tie.Need-same-length-3
-same-length-3 c = search needs
-
-same-length-4 : tie.Need-same-length-4
-same-length-4 c = search needs
 
 returns : tie.Need-returns
 returns c =
@@ -56,12 +38,12 @@ open-spec =
     tie.close
     (tie.spec
     load-requires
-    fill-requires
-    decode-requires
+    (λ c κs. search needs)
+    (λ c κs. search needs)
     first-later-requires
     end-time-requires
-    same-length
-    same-length-2
-    same-length-3
-    same-length-4
+    (λ c. search needs)
+    (λ c. search needs)
+    (λ c. search needs)
+    (λ c. search needs)
     returns)

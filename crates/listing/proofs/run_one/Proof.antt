@@ -14,12 +14,6 @@ run-requires c κs =
     let r = c .before .before .before .before .before .before .before .before .before .pre .0 in
     rw (c .before .before .before .before .write-back .ensures) (fresh-tables _ _ _ _ r, (fresh-watching _ _ _ _ r, (fresh-memory _ _ _ _ r, fresh-head _ _ _ _ r)))
 
-same-length : tie.Need-same-length
-same-length c = search needs
-
-same-length-2 : tie.Need-same-length-2
-same-length-2 c = search needs
-
 returns : tie.Need-returns
 returns c =
     let e = c .before .before .before .before .before .before .before .before .write-back .ensures in
@@ -28,4 +22,4 @@ returns c =
 
 pub run-one-spec : {M : Type 1} → statement M
 run-one-spec =
-    tie.close (tie.spec write-back-requires run-requires same-length same-length-2 returns)
+    tie.close (tie.spec write-back-requires run-requires (λ c. search needs) (λ c. search needs) returns)

@@ -24,12 +24,6 @@ loop-holds c = fed-starts _ _ _ _ _ (c .before .before .pre .1 .0)
 next-requires : tie.Need-next-requires Inv-loop μ-loop
 next-requires c κs = line-right _ _ (c .before .before .before .pre .0 .passes) _ (c .loop .inv .few)
 
-enum-known-at : tie.Need-enum-known-at Inv-loop μ-loop
-enum-known-at c = search needs
-
-enum-told : tie.Need-enum-told Inv-loop μ-loop
-enum-told c = search needs
-
 returns : tie.Need-returns Inv-loop μ-loop
 returns c =
     let i = c .before .before .before .loop .inv in
@@ -40,12 +34,6 @@ returns-2 : tie.Need-returns-2 Inv-loop μ-loop
 returns-2 c =
     let g = given-at _ _ (c .before .before .before .before .before .before .before .before .pre .0 .passes) _ (c .before .before .before .before .before .loop .inv .few) _ _ _ _ (sym (c .before .before .before .before .next .ensures) ∙ c .before .before .at .given .1) in
     (c .before .before .before .before .before .loop .inv, λ h q. c .if1 .taken (g .time-is ∙ q))
-
-cast-set : tie.Need-cast-set Inv-loop μ-loop
-cast-set c = search needs
-
-cast-set-2 : tie.Need-cast-set-2 Inv-loop μ-loop
-cast-set-2 c = search needs
 
 set-requires : tie.Need-set-requires Inv-loop μ-loop
 set-requires c κs = c .before .before .before .before .before .before .before .before .pre .1 .1
@@ -66,12 +54,12 @@ take-settings-spec =
     μ-loop
     loop-holds
     next-requires
-    enum-known-at
-    enum-told
+    (λ c. search needs)
+    (λ c. search needs)
     returns
     returns-2
-    cast-set
-    cast-set-2
+    (λ c. search needs)
+    (λ c. search needs)
     set-requires
     loop-less
     loop-again)

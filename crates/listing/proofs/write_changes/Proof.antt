@@ -15,14 +15,8 @@ Inv-loop time panel memory shown₀ out₀ signals at₀ s₀ shown out at s = W
 abbrev μ-loop : tie.MeasureT-loop
 μ-loop time panel memory shown₀ out₀ signals at₀ s₀ shown out at s = signals - s
 
-word-at-requires : tie.Need-word-at-requires Inv-loop μ-loop
-word-at-requires c κs = search needs
-
 loop-holds : tie.Need-loop-holds Inv-loop μ-loop
 loop-holds c = written-starts _ _ _ _ _ (c .before .before .before .before .before .pre .1 .1 .1 .0)
-
-add-s : tie.Need-add-s Inv-loop μ-loop
-add-s c = search needs
 
 value-of-requires : tie.Need-value-of-requires Inv-loop μ-loop
 value-of-requires c κs =
@@ -36,9 +30,6 @@ write-change-requires c κs =
     let i = c .before .before .before .before .loop .inv in
     let size = c .before .before .before .before .before .word-at .ensures in
     (omega (arith, i .size, s .pre .0 .1), omega (arith, i .most, s .pre .0 .1, written-size i, s .pre .1 .1 .1 .1))
-
-loop-less : tie.Need-loop-less Inv-loop μ-loop
-loop-less c = search needs
 
 loop-again : tie.Need-loop-again Inv-loop μ-loop
 loop-again c =
@@ -64,12 +55,12 @@ write-changes-spec =
     (tie.spec
     Inv-loop
     μ-loop
-    word-at-requires
+    (λ c κs. search needs)
     loop-holds
-    add-s
+    (λ c. search needs)
     value-of-requires
     write-change-requires
-    loop-less
+    (λ c. search needs)
     loop-again
     same-length
     same-length-2

@@ -24,36 +24,12 @@ Inv-loop panel program memory₀ cycles processors slots signal mask k done₀ m
 abbrev μ-loop : tie.MeasureT-loop
 μ-loop panel program memory₀ cycles processors slots signal mask k done₀ memory done = k - done
 
-shared-slice-read-widened : tie.Need-shared-slice-read-widened Inv-loop μ-loop
-shared-slice-read-widened c = search needs
-
-widened-requires : tie.Need-widened-requires Inv-loop μ-loop
-widened-requires c κs = search needs
-
-cast-processors : tie.Need-cast-processors Inv-loop μ-loop
-cast-processors c = search needs
-
-word-at-requires : tie.Need-word-at-requires Inv-loop μ-loop
-word-at-requires c κs = search needs
-
-word-at-requires-2 : tie.Need-word-at-requires-2 Inv-loop μ-loop
-word-at-requires-2 c κs = search needs
-
-shared-slice-read-mask : tie.Need-shared-slice-read-mask Inv-loop μ-loop
-shared-slice-read-mask c = search needs
-
 loop-holds : tie.Need-loop-holds Inv-loop μ-loop
 unfolding moduleIn
 loop-holds c =
     let s = c .before .before .before .before .before .before .before .before in
     let t = s .pre .0 in
     (omega arith, s .pre .1 .1, cycles-none _ (moduleIn (s .args .panel .now) (s .args .program .now)) (t .laid) (t .processors-high) (t .slots-high) (handIn (s .args .panel .now)) (s .args .memory .now) (s .pre .1 .1 .size), λ i a b. absurd (omega arith))
-
-run-cycle-requires : tie.Need-run-cycle-requires Inv-loop μ-loop
-run-cycle-requires c κs = search needs
-
-add-done : tie.Need-add-done Inv-loop μ-loop
-add-done c = search needs
 
 value-of-requires : tie.Need-value-of-requires Inv-loop μ-loop
 unfolding moduleIn
@@ -67,12 +43,6 @@ value-of-requires c κs =
       (t .panel-size, omega (arith, e, watch .signal-high), subst (λ (x : ℕ). processorIn panel x < 16) (sym e) low),
       bytes-written (within (processorsIn panel) (slotsIn panel)) _ (c .before .before .before .before .before .before .loop .memory) _ (c .before .before .before .before .before .before .loop .inv .1) (c .before .before .before .run-cycle .ensures),
     )
-
-shows-requires : tie.Need-shows-requires Inv-loop μ-loop
-shows-requires c κs = search needs
-
-same-length : tie.Need-same-length Inv-loop μ-loop
-same-length c = search needs
 
 returns : tie.Need-returns Inv-loop μ-loop
 unfolding moduleIn runIn
@@ -90,9 +60,6 @@ returns c =
     let told = stop-told n m (t .laid) (t .processors-high) (t .slots-high) (handIn panel) old (maskIn panel) (processorIn panel) (slotIn panel) (watchedIn panel) at _ _ _ _ _ (c .before .before .before .before .before .before .before .before .before .before .before .word-at2 .ensures) next (c .before .before .value-of .ensures) (c .before .shows .ensures) in
     ran-stopped n m (t .laid) (t .processors-high) (t .slots-high) (handIn panel) old (λ (w : Memory). watched (maskIn panel) (watchedValue panel w)) (s .args .cycles .0) (c .before .before .before .before .before .before .before .before .before .loop .done) _ (omega arith) (i .3) next (told ∙ c .if1 .taken)
 
-loop-less : tie.Need-loop-less Inv-loop μ-loop
-loop-less c = search needs
-
 loop-again : tie.Need-loop-again Inv-loop μ-loop
 unfolding moduleIn
 loop-again c =
@@ -108,9 +75,6 @@ loop-again c =
     let next = cycles-more n m (t .laid) (t .processors-high) (t .slots-high) (handIn panel) old (c .before .before .before .before .before .before .before .before .before .loop .memory) _ (c .before .before .before .before .before .before .before .before .before .loop .done) (i .2) (c .before .before .before .before .before .before .run-cycle .ensures) in
     let told = stop-told n m (t .laid) (t .processors-high) (t .slots-high) (handIn panel) old (maskIn panel) (processorIn panel) (slotIn panel) (watchedIn panel) at _ _ _ _ _ (c .before .before .before .before .before .before .before .before .before .before .before .word-at2 .ensures) next (c .before .before .value-of .ensures) (c .before .shows .ensures) in
     (omega arith, bytes-written (within (m .processors) (m .slots)) _ old _ (s .pre .1 .1) next, next, quiet-more n m (t .laid) (t .processors-high) (t .slots-high) (handIn panel) old (λ (w : Memory). watched (maskIn panel) (watchedValue panel w)) (s .args .cycles .0) (c .before .before .before .before .before .before .before .before .before .loop .done) (i .3) (told ∙ c .if1 .left))
-
-same-length-2 : tie.Need-same-length-2 Inv-loop μ-loop
-same-length-2 c = search needs
 
 returns-2 : tie.Need-returns-2 Inv-loop μ-loop
 unfolding moduleIn runIn
@@ -129,20 +93,20 @@ run-spec =
     (tie.spec
     Inv-loop
     μ-loop
-    shared-slice-read-widened
-    widened-requires
-    cast-processors
-    word-at-requires
-    word-at-requires-2
-    shared-slice-read-mask
+    (λ c. search needs)
+    (λ c κs. search needs)
+    (λ c. search needs)
+    (λ c κs. search needs)
+    (λ c κs. search needs)
+    (λ c. search needs)
     loop-holds
-    run-cycle-requires
-    add-done
+    (λ c κs. search needs)
+    (λ c. search needs)
     value-of-requires
-    shows-requires
-    same-length
+    (λ c κs. search needs)
+    (λ c. search needs)
     returns
-    loop-less
+    (λ c. search needs)
     loop-again
-    same-length-2
+    (λ c. search needs)
     returns-2)

@@ -5,15 +5,6 @@ use borrow.Author.Needs.{needs}
 use Rattle.machine_run.proofs.run_cycle.Statement.{statement}
 use Rattle.machine_run.proofs.run_cycle.Tie as tie
 
-run-slots-requires : tie.Need-run-slots-requires
-run-slots-requires c κs = search needs
-
-alternate-requires : tie.Need-alternate-requires
-alternate-requires c κs = search needs
-
-same-length : tie.Need-same-length
-same-length c = search needs
-
 returns : tie.Need-returns
 unfolding moduleIn
 returns c =
@@ -23,4 +14,4 @@ returns c =
     (s .pre .1 .1 .0) (s .pre .1 .1 .1) (c .before .before .before .before .before .before .run-slots .ensures) (c .before .before .alternate .ensures)
 
 pub run-cycle-spec : {M : Type 1} → statement M
-run-cycle-spec = tie.close (tie.spec run-slots-requires alternate-requires same-length returns)
+run-cycle-spec = tie.close (tie.spec (λ c κs. search needs) (λ c κs. search needs) (λ c. search needs) returns)

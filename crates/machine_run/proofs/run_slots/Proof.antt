@@ -32,12 +32,6 @@ run-slot-requires c κs =
     let s = c .before .before .before .before .before .before in
     (s .pre .0, (c .before .before .loop .inv .1, (s .pre .1 .1 .0, omega (arith, s .pre .1 .1 .1, c .before .loop-test .taken))))
 
-add-i : tie.Need-add-i Inv-loop μ-loop
-add-i c = search needs
-
-loop-less : tie.Need-loop-less Inv-loop μ-loop
-loop-less c = search needs
-
 loop-again : tie.Need-loop-again Inv-loop μ-loop
 unfolding moduleIn
 loop-again c =
@@ -47,9 +41,6 @@ loop-again c =
     let m = moduleIn (s .args .panel .now) (s .args .program .now) in
     let next = slots-more _ m (t .laid) (t .processors-high) (t .slots-high) (handIn (s .args .panel .now)) (s .args .memory .now) (c .before .before .before .before .before .loop .memory) _ (c .before .before .before .before .before .loop .i) (omega (arith, s .pre .1 .1 .1, c .before .before .before .before .loop-test .taken)) (i .2) (c .before .before .run-slot .ensures) in
     (omega arith, bytes-written (within (m .processors) (m .slots)) _ (s .args .memory .now) _ (s .pre .1 .0) next, next)
-
-same-length : tie.Need-same-length Inv-loop μ-loop
-same-length c = search needs
 
 returns : tie.Need-returns Inv-loop μ-loop
 returns c =
@@ -66,8 +57,8 @@ run-slots-spec =
     μ-loop
     loop-holds
     run-slot-requires
-    add-i
-    loop-less
+    (λ c. search needs)
+    (λ c. search needs)
     loop-again
-    same-length
+    (λ c. search needs)
     returns)

@@ -7,30 +7,6 @@ use borrow.Author.Needs.{needs}
 use Rattle.machine_run.proofs.value_of.Statement.{statement}
 use Rattle.machine_run.proofs.value_of.Tie as tie
 
-mul-at : tie.Need-mul-at
-mul-at c = search needs
-
-add-widened : tie.Need-add-widened
-add-widened c = search needs
-
-shared-slice-read-widened : tie.Need-shared-slice-read-widened
-shared-slice-read-widened c = search needs
-
-widened-requires : tie.Need-widened-requires
-widened-requires c κs = search needs
-
-cast-processor : tie.Need-cast-processor
-cast-processor c = search needs
-
-add-t6 : tie.Need-add-t6
-add-t6 c = search needs
-
-shared-slice-read-t9 : tie.Need-shared-slice-read-t9
-shared-slice-read-t9 c = search needs
-
-fetch-requires : tie.Need-fetch-requires
-fetch-requires c κs = search needs
-
 returns : tie.Need-returns
 unfolding fetch
 returns c =
@@ -41,12 +17,12 @@ pub value-of-spec : {M : Type 1} → statement M
 value-of-spec =
     tie.close
     (tie.spec
-    mul-at
-    add-widened
-    shared-slice-read-widened
-    widened-requires
-    cast-processor
-    add-t6
-    shared-slice-read-t9
-    fetch-requires
+    (λ c. search needs)
+    (λ c. search needs)
+    (λ c. search needs)
+    (λ c κs. search needs)
+    (λ c. search needs)
+    (λ c. search needs)
+    (λ c. search needs)
+    (λ c κs. search needs)
     returns)

@@ -28,30 +28,12 @@ loop-holds c =
     let s = c .before .before .before .before .before in
     (omega arith, s .pre .1 .1 .2, s .pre .1 .1 .3, (λ q l. absurd (omega arith)), λ q l. absurd (omega arith))
 
-instruction-in-requires : tie.Need-instruction-in-requires Inv-loop μ-loop
-instruction-in-requires c κs = search needs
-
 evaluate-requires : tie.Need-evaluate-requires Inv-loop μ-loop
 evaluate-requires c κs =
     let s = c .before .before .before .before .before .before .before .before in
     let inside : c .before .before .loop .p < processorsIn (s .args .panel .now) = omega (arith, s .pre .1 .1 .0, c .before .loop-test .taken) in
     let low = line-signal _ _ (s .pre .0) (c .before .before .loop .p) (s .args .slot .0) inside (s .pre .1 .1 .1) in
     ((s .pre .0 .panel-size, omega (arith, s .pre .0 .processors-high, inside), rw (c .instruction-in .ensures) low), s .pre .1 .0)
-
-slice-write-results : tie.Need-slice-write-results Inv-loop μ-loop
-slice-write-results c = search needs
-
-fetch-requires : tie.Need-fetch-requires Inv-loop μ-loop
-fetch-requires c κs = search needs
-
-slice-write-sent : tie.Need-slice-write-sent Inv-loop μ-loop
-slice-write-sent c = search needs
-
-add-p : tie.Need-add-p Inv-loop μ-loop
-add-p c = search needs
-
-loop-less : tie.Need-loop-less Inv-loop μ-loop
-loop-less c = search needs
 
 loop-again : tie.Need-loop-again Inv-loop μ-loop
 loop-again c =
@@ -68,12 +50,6 @@ loop-again c =
           (rw (line, sent-line (s .args .panel .now) (s .args .program .now) w (loop .p) (s .args .slot .0)) at (c .fetch .ensures)),
     )
 
-same-length : tie.Need-same-length Inv-loop μ-loop
-same-length c = search needs
-
-same-length-2 : tie.Need-same-length-2 Inv-loop μ-loop
-same-length-2 c = search needs
-
 returns : tie.Need-returns Inv-loop μ-loop
 returns c =
     let i = c .before .loop .inv in
@@ -86,14 +62,14 @@ fetch-all-spec =
     Inv-loop
     μ-loop
     loop-holds
-    instruction-in-requires
+    (λ c κs. search needs)
     evaluate-requires
-    slice-write-results
-    fetch-requires
-    slice-write-sent
-    add-p
-    loop-less
+    (λ c. search needs)
+    (λ c κs. search needs)
+    (λ c. search needs)
+    (λ c. search needs)
+    (λ c. search needs)
     loop-again
-    same-length
-    same-length-2
+    (λ c. search needs)
+    (λ c. search needs)
     returns)

@@ -3,27 +3,6 @@ use borrow.Author.Needs.{needs}
 use Rattle.machine_slot.proofs.gate_on.Statement.{statement}
 use Rattle.machine_slot.proofs.gate_on.Tie as tie
 
-cast-signal : tie.Need-cast-signal
-cast-signal c = search needs
-
-gate-in-requires : tie.Need-gate-in-requires
-gate-in-requires c κs = search needs
-
-fetch-requires : tie.Need-fetch-requires
-fetch-requires c κs = search needs
-
-fetch-requires-2 : tie.Need-fetch-requires-2
-fetch-requires-2 c κs = search needs
-
-fetch-requires-3 : tie.Need-fetch-requires-3
-fetch-requires-3 c κs = search needs
-
-fetch-requires-4 : tie.Need-fetch-requires-4
-fetch-requires-4 c κs = search needs
-
-value-requires : tie.Need-value-requires
-value-requires c κs = search needs
-
 returns : tie.Need-returns
 unfolding gateOn
 returns c =
@@ -39,11 +18,11 @@ pub gate-on-spec : {M : Type 1} → statement M
 gate-on-spec =
     tie.close
     (tie.spec
-    cast-signal
-    gate-in-requires
-    fetch-requires
-    fetch-requires-2
-    fetch-requires-3
-    fetch-requires-4
-    value-requires
+    (λ c. search needs)
+    (λ c κs. search needs)
+    (λ c κs. search needs)
+    (λ c κs. search needs)
+    (λ c κs. search needs)
+    (λ c κs. search needs)
+    (λ c κs. search needs)
     returns)

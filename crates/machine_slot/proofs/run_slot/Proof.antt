@@ -5,27 +5,6 @@ use borrow.Author.Needs.{needs}
 use Rattle.machine_slot.proofs.run_slot.Statement.{statement}
 use Rattle.machine_slot.proofs.run_slot.Tie as tie
 
-slice-aggregate-fetch-all : tie.Need-slice-aggregate-fetch-all
-slice-aggregate-fetch-all c = search needs
-
-slice-aggregate-fetch-all-2 : tie.Need-slice-aggregate-fetch-all-2
-slice-aggregate-fetch-all-2 c = search needs
-
-fetch-all-requires : tie.Need-fetch-all-requires
-fetch-all-requires c κs = search needs
-
-slice-aggregate-store-all : tie.Need-slice-aggregate-store-all
-slice-aggregate-store-all c = search needs
-
-slice-aggregate-store-all-2 : tie.Need-slice-aggregate-store-all-2
-slice-aggregate-store-all-2 c = search needs
-
-store-all-requires : tie.Need-store-all-requires
-store-all-requires c κs = search needs
-
-same-length : tie.Need-same-length
-same-length c = search needs
-
 returns : tie.Need-returns
 unfolding moduleIn
 returns c =
@@ -39,11 +18,11 @@ pub run-slot-spec : {M : Type 1} → statement M
 run-slot-spec =
     tie.close
     (tie.spec
-    slice-aggregate-fetch-all
-    slice-aggregate-fetch-all-2
-    fetch-all-requires
-    slice-aggregate-store-all
-    slice-aggregate-store-all-2
-    store-all-requires
-    same-length
+    (λ c. search needs)
+    (λ c. search needs)
+    (λ c κs. search needs)
+    (λ c. search needs)
+    (λ c. search needs)
+    (λ c κs. search needs)
+    (λ c. search needs)
     returns)

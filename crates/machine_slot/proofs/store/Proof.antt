@@ -6,15 +6,6 @@ use borrow.Author.Needs.{needs}
 use Rattle.machine_slot.proofs.store.Statement.{statement}
 use Rattle.machine_slot.proofs.store.Tie as tie
 
-instruction-in-requires : tie.Need-instruction-in-requires
-instruction-in-requires c κs = search needs
-
-shared-slice-read-store-result : tie.Need-shared-slice-read-store-result
-shared-slice-read-store-result c = search needs
-
-store-result-requires : tie.Need-store-result-requires
-store-result-requires c κs = search needs
-
 store-received-requires : tie.Need-store-received-requires
 store-received-requires c κs =
     let s = c .before .before .before .before .before .before .before .before .before .before .before .before in (
@@ -22,9 +13,6 @@ store-received-requires c κs =
       rw (c .before .before .before .before .before .before .instruction-in .ensures, s .pre .1 .0 .2)
           (sender-fits _ _ (s .pre .0) (s .args .processor) (s .args .slot .0) (s .pre .1 .1 .0) (s .pre .1 .1 .1)),
     )
-
-same-length : tie.Need-same-length
-same-length c = search needs
 
 returns : tie.Need-returns
 unfolding moduleIn
@@ -39,9 +27,9 @@ pub store-spec : {M : Type 1} → statement M
 store-spec =
     tie.close
     (tie.spec
-    instruction-in-requires
-    shared-slice-read-store-result
-    store-result-requires
+    (λ c κs. search needs)
+    (λ c. search needs)
+    (λ c κs. search needs)
     store-received-requires
-    same-length
+    (λ c. search needs)
     returns)

@@ -30,21 +30,12 @@ store-requires c κs =
     let s = c .before .before .before .before .before .before .before .before in
     (s .pre .0, ((c .before .before .loop .inv .1, s .pre .1 .0 .1, s .pre .1 .0 .2), (omega (arith, s .pre .1 .1 .0, c .before .loop-test .taken), s .pre .1 .1 .1)))
 
-add-p : tie.Need-add-p Inv-loop μ-loop
-add-p c = search needs
-
-loop-less : tie.Need-loop-less Inv-loop μ-loop
-loop-less c = search needs
-
 loop-again : tie.Need-loop-again Inv-loop μ-loop
 loop-again c =
     let s = c .before .before .before .before .before .before .before .before .before .before .before in
     let i = c .before .before .before .before .before .loop .inv in
     let next = processor-stored (moduleIn (s .args .panel .now) (s .args .program .now)) (s .args .slot .0) (s .args .results .now) (s .args .sent .now) (s .args .memory .now) (c .before .before .before .before .before .loop .memory) _ (c .before .before .before .before .before .loop .p) (i .2) (c .before .before .store .ensures) in
     (omega arith, ap length next ∙ written-length _ _ _, next)
-
-same-length : tie.Need-same-length Inv-loop μ-loop
-same-length c = search needs
 
 returns : tie.Need-returns Inv-loop μ-loop
 returns c =
@@ -60,8 +51,8 @@ store-all-spec =
     μ-loop
     loop-holds
     store-requires
-    add-p
-    loop-less
+    (λ c. search needs)
+    (λ c. search needs)
     loop-again
-    same-length
+    (λ c. search needs)
     returns)

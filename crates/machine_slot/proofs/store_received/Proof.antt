@@ -11,24 +11,6 @@ use Rattle.machine_slot.proofs.store_received.Tie as tie
 shared-slice-read-memory : tie.Need-shared-slice-read-memory
 shared-slice-read-memory c = omega (arith, c .before .before .pre .1 (c .before .if1 .taken))
 
-mul-memory : tie.Need-mul-memory
-mul-memory c = search needs
-
-add-memory : tie.Need-add-memory
-add-memory c = search needs
-
-cast-memory : tie.Need-cast-memory
-cast-memory c = search needs
-
-add-memory-2 : tie.Need-add-memory-2
-add-memory-2 c = search needs
-
-slice-write-memory : tie.Need-slice-write-memory
-slice-write-memory c = search needs
-
-same-length : tie.Need-same-length
-same-length c = search needs
-
 returns : tie.Need-returns
 returns c =
     let s = c .before .before in
@@ -42,11 +24,11 @@ store-received-spec =
     tie.close
     (tie.spec
     shared-slice-read-memory
-    mul-memory
-    add-memory
-    cast-memory
-    add-memory-2
-    slice-write-memory
-    same-length
+    (λ c. search needs)
+    (λ c. search needs)
+    (λ c. search needs)
+    (λ c. search needs)
+    (λ c. search needs)
+    (λ c. search needs)
     returns
     returns-2)

@@ -7,24 +7,6 @@ use borrow.Author.Needs.{needs}
 use Rattle.machine_slot.proofs.store_result.Statement.{statement}
 use Rattle.machine_slot.proofs.store_result.Tie as tie
 
-mul-memory : tie.Need-mul-memory
-mul-memory c = search needs
-
-add-memory : tie.Need-add-memory
-add-memory c = search needs
-
-cast-memory : tie.Need-cast-memory
-cast-memory c = search needs
-
-add-memory-2 : tie.Need-add-memory-2
-add-memory-2 c = search needs
-
-slice-write-memory : tie.Need-slice-write-memory
-slice-write-memory c = search needs
-
-same-length : tie.Need-same-length
-same-length c = search needs
-
 returns : tie.Need-returns
 returns c =
     let s = c .before in
@@ -37,11 +19,11 @@ pub store-result-spec : {M : Type 1} → statement M
 store-result-spec =
     tie.close
     (tie.spec
-    mul-memory
-    add-memory
-    cast-memory
-    add-memory-2
-    slice-write-memory
-    same-length
+    (λ c. search needs)
+    (λ c. search needs)
+    (λ c. search needs)
+    (λ c. search needs)
+    (λ c. search needs)
+    (λ c. search needs)
     returns
     returns-2)

@@ -5,14 +5,8 @@ use borrow.Author.Needs.{needs}
 use Rattle.session_state.proofs.is_input.Statement.{statement}
 use Rattle.session_state.proofs.is_input.Tie as tie
 
-is-signal-requires : tie.Need-is-signal-requires
-is-signal-requires c κs = search needs
-
 returns : tie.Need-returns
 returns c = input-stops _ _ _ (c .before .is-signal .ensures) (c .if1 .taken)
-
-mul-result : tie.Need-mul-result
-mul-result c = search needs
 
 shared-slice-read-result : tie.Need-shared-slice-read-result
 shared-slice-read-result c =
@@ -26,4 +20,4 @@ returns-2 c =
 
 pub is-input-spec : {M : Type 1} → statement M
 is-input-spec =
-    tie.close (tie.spec is-signal-requires returns mul-result shared-slice-read-result returns-2)
+    tie.close (tie.spec (λ c κs. search needs) returns (λ c. search needs) shared-slice-read-result returns-2)

@@ -12,15 +12,9 @@ returns : tie.Need-returns
 unfolding signalIn _and_
 returns c = rw (c .if1 .taken)
 
-word-at-requires : tie.Need-word-at-requires
-word-at-requires c κs = search needs
-
-cast-result : tie.Need-cast-result
-cast-result c = search needs
-
 returns-2 : tie.Need-returns-2
 unfolding signalIn _and_
 returns-2 c = let one : 1 ≤ c .before .before .before .args .signal = omega arith in rw (le-leb _ _ one, ← c .word-at .ensures)
 
 pub is-signal-spec : {M : Type 1} → statement M
-is-signal-spec = tie.close (tie.spec returns word-at-requires cast-result returns-2)
+is-signal-spec = tie.close (tie.spec returns (λ c κs. search needs) (λ c. search needs) returns-2)

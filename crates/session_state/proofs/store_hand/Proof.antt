@@ -20,32 +20,8 @@ loop-holds : tie.Need-loop-holds Inv-loop μ-loop
 unfolding handStored
 loop-holds c = (search needs, omega arith, refl)
 
-add-panel : tie.Need-add-panel Inv-loop μ-loop
-add-panel c = search needs
-
-shared-slice-read-panel : tie.Need-shared-slice-read-panel Inv-loop μ-loop
-shared-slice-read-panel c = search needs
-
-mul-panel : tie.Need-mul-panel Inv-loop μ-loop
-mul-panel c = search needs
-
-add-panel-2 : tie.Need-add-panel-2 Inv-loop μ-loop
-add-panel-2 c = search needs
-
-slice-write-panel : tie.Need-slice-write-panel Inv-loop μ-loop
-slice-write-panel c = search needs
-
-add-s : tie.Need-add-s Inv-loop μ-loop
-add-s c = search needs
-
-loop-less : tie.Need-loop-less Inv-loop μ-loop
-loop-less c = search needs
-
 loop-again : tie.Need-loop-again Inv-loop μ-loop
 loop-again c = (search needs, omega arith, hand-more _ _ _ _ (c .before .before .loop .inv .2))
-
-same-length : tie.Need-same-length Inv-loop μ-loop
-same-length c = search needs
 
 returns : tie.Need-returns Inv-loop μ-loop
 returns c = let inv = c .before .loop .inv in hand-end _ _ _ _ (inv .2) (inv .1) (omega arith)
@@ -57,13 +33,13 @@ store-hand-spec =
     Inv-loop
     μ-loop
     loop-holds
-    add-panel
-    shared-slice-read-panel
-    mul-panel
-    add-panel-2
-    slice-write-panel
-    add-s
-    loop-less
+    (λ c. search needs)
+    (λ c. search needs)
+    (λ c. search needs)
+    (λ c. search needs)
+    (λ c. search needs)
+    (λ c. search needs)
+    (λ c. search needs)
     loop-again
-    same-length
+    (λ c. search needs)
     returns)

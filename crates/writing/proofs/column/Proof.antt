@@ -7,15 +7,6 @@ use borrow.Author.Needs.{needs}
 use Rattle.writing.proofs.column.Statement.{statement}
 use Rattle.writing.proofs.column.Tie as tie
 
-div-result : tie.Need-div-result
-div-result c = search needs
-
-add-result : tie.Need-add-result
-add-result c = search needs
-
-cast-result : tie.Need-cast-result
-cast-result c = search needs
-
 returns : tie.Need-returns
 unfolding columnOf _or_
 returns c = search (needs, decided)
@@ -28,4 +19,4 @@ unfolding columnOf _or_
 returns-3 c = search (needs, decided)
 
 pub column-spec : {M : Type 1} → statement M
-column-spec = tie.close (tie.spec div-result add-result cast-result returns returns-2 returns-3)
+column-spec = tie.close (tie.spec (λ c. search needs) (λ c. search needs) (λ c. search needs) returns returns-2 returns-3)

@@ -19,24 +19,6 @@ loop-holds : tie.Need-loop-holds Inv-loop μ-loop
 unfolding flatMap
 loop-holds c = search needs
 
-mul-write-field : tie.Need-mul-write-field Inv-loop μ-loop
-mul-write-field c = search needs
-
-shared-slice-read-write-field : tie.Need-shared-slice-read-write-field Inv-loop μ-loop
-shared-slice-read-write-field c = search needs
-
-write-field-requires : tie.Need-write-field-requires Inv-loop μ-loop
-write-field-requires c κs = search needs
-
-add-place : tie.Need-add-place Inv-loop μ-loop
-add-place c = search needs
-
-add-k : tie.Need-add-k Inv-loop μ-loop
-add-k c = search needs
-
-loop-less : tie.Need-loop-less Inv-loop μ-loop
-loop-less c = search needs
-
 loop-again : tie.Need-loop-again Inv-loop μ-loop
 loop-again c =
     let i = c .before .before .before .before .before .before .loop .inv in
@@ -46,15 +28,6 @@ loop-again c =
       w .kept .0 ∙ i .2,
       w .ensures ∙ fields-more _ _ _ _ _ _ (i .3) (c .before .before .before .before .before .loop-test .taken) (i .1),
     )
-
-slice-write-out : tie.Need-slice-write-out Inv-loop μ-loop
-slice-write-out c = search needs
-
-add-result : tie.Need-add-result Inv-loop μ-loop
-add-result c = search needs
-
-same-length : tie.Need-same-length Inv-loop μ-loop
-same-length c = search needs
 
 returns : tie.Need-returns Inv-loop μ-loop
 returns c =
@@ -68,14 +41,14 @@ write-line-spec =
     Inv-loop
     μ-loop
     loop-holds
-    mul-write-field
-    shared-slice-read-write-field
-    write-field-requires
-    add-place
-    add-k
-    loop-less
+    (λ c. search needs)
+    (λ c. search needs)
+    (λ c κs. search needs)
+    (λ c. search needs)
+    (λ c. search needs)
+    (λ c. search needs)
     loop-again
-    slice-write-out
-    add-result
-    same-length
+    (λ c. search needs)
+    (λ c. search needs)
+    (λ c. search needs)
     returns)

@@ -25,9 +25,6 @@ add-number-at-2 c = omega (arith, line-fits _ _ (c .before .before .before .pre)
 number-at-requires-3 : tie.Need-number-at-requires-3
 number-at-requires-3 c κs = value-field _ _ (c .before .before .before .pre)
 
-is-end-requires : tie.Need-is-end-requires
-is-end-requires c κs = search needs
-
 -- the numbers that were read are those of the line
 reads : (c : tie.After-number-at3)
     → let a = c .before .before .before .before .args in
@@ -55,7 +52,7 @@ next-spec =
     number-at-requires-2
     add-number-at-2
     number-at-requires-3
-    is-end-requires
+    (λ c κs. search needs)
     returns
     add-t8
     returns-2)

@@ -8,48 +8,21 @@ use borrow.Author.Needs.{needs}
 use Rattle.listing.proofs.Lister.step.Statement.{statement}
 use Rattle.listing.proofs.Lister.step.Tie as tie
 
-cast-if1 : tie.Need-cast-if1
-cast-if1 c = search needs
-
-slice-aggregate-write-line : tie.Need-slice-aggregate-write-line
-slice-aggregate-write-line c = search needs
-
-write-line-requires : tie.Need-write-line-requires
-write-line-requires c κs = search needs
-
 add-t29 : tie.Need-add-t29
 add-t29 c =
     let s = c .before .before .before .before .before .before .before .before .before .before .before .before .before .before .before in
     omega (arith, stands-end (s .pre .0 .stands), stands-pieces (s .pre .0 .stands))
-
-same-length : tie.Need-same-length
-same-length c = search needs
 
 returns : tie.Need-returns
 returns c = λ files k s.
     let w = c .before .before .write-line .ensures in
     gives-last s (c .before .before .before .before .before .if1 .taken) _ _ _ (w .0 ∙ sym (length-line _)) (w .1) refl
 
-cast-time : tie.Need-cast-time
-cast-time c = search needs
-
 write-changes-requires : tie.Need-write-changes-requires
 write-changes-requires c κs =
     let s = c .before .before .before .before .before .before .before .before .before .before .before .before .before .before .before in
     let st = s .pre .0 .stands in
     ((st .right .sizes .panel-size, right-signals (st .right)), (right-processor (st .right), (right-memory (st .right), (st .shown-size, s .pre .1))))
-
-same-length-2 : tie.Need-same-length-2
-same-length-2 c = search needs
-
-same-length-3 : tie.Need-same-length-3
-same-length-3 c = search needs
-
-same-length-4 : tie.Need-same-length-4
-same-length-4 c = search needs
-
-same-length-5 : tie.Need-same-length-5
-same-length-5 c = search needs
 
 returns-2 : tie.Need-returns-2
 returns-2 c = λ files k s.
@@ -87,18 +60,6 @@ add-t22 c =
     let s = c .before .before .before .before .before .before .before .before .before .before .before .before .before .before .before .before .before .before .before .before .before .before .before .before .before .before .before .before .before .before .before .before .before in
     omega (arith, stands-end (s .pre .0 .stands), stands-pieces (s .pre .0 .stands))
 
-same-length-6 : tie.Need-same-length-6
-same-length-6 c = search needs
-
-same-length-7 : tie.Need-same-length-7
-same-length-7 c = search needs
-
-same-length-8 : tie.Need-same-length-8
-same-length-8 c = search needs
-
-same-length-9 : tie.Need-same-length-9
-same-length-9 c = search needs
-
 returns-3 : tie.Need-returns-3
 returns-3 c = λ files k s.
     let later = c .before .before .before .before .before .before .before .before .before .before .before .before .before .before .before .before .before .before .before .before .before .before .if2 .left in
@@ -113,25 +74,25 @@ pub step-spec : {M : Type 1} → statement M
 step-spec =
     tie.close
     (tie.spec
-    cast-if1
-    slice-aggregate-write-line
-    write-line-requires
+    (λ c. search needs)
+    (λ c. search needs)
+    (λ c κs. search needs)
     add-t29
-    same-length
+    (λ c. search needs)
     returns
-    cast-time
+    (λ c. search needs)
     write-changes-requires
-    same-length-2
-    same-length-3
-    same-length-4
-    same-length-5
+    (λ c. search needs)
+    (λ c. search needs)
+    (λ c. search needs)
+    (λ c. search needs)
     returns-2
     take-settings-requires
     run-one-requires
     write-changes-requires-2
     add-t22
-    same-length-6
-    same-length-7
-    same-length-8
-    same-length-9
+    (λ c. search needs)
+    (λ c. search needs)
+    (λ c. search needs)
+    (λ c. search needs)
     returns-3)

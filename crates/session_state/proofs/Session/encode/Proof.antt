@@ -6,19 +6,10 @@ use borrow.Author.Needs.{needs}
 use Rattle.session_state.proofs.Session.encode.Statement.{statement}
 use Rattle.session_state.proofs.Session.encode.Tie as tie
 
-store-numbers-requires : tie.Need-store-numbers-requires
-store-numbers-requires c κs = search needs
-
-store-hand-requires : tie.Need-store-hand-requires
-store-hand-requires c κs = search needs
-
-same-length : tie.Need-same-length
-same-length c = search needs
-
 returns : tie.Need-returns
 returns c =
     let s = c .before .before .before .before .before .before .before .before .before .before .before .before in
     encoded (headOf (s .args .t1)) (s .args .t1 .hand) _ _ _ (s .pre) (λ k. refl) (c .before .before .before .before .before .before .before .before .before .store-numbers .ensures) (c .before .before .store-hand .ensures)
 
 pub encode-spec : {M : Type 1} → statement M
-encode-spec = tie.close (tie.spec store-numbers-requires store-hand-requires same-length returns)
+encode-spec = tie.close (tie.spec (λ c κs. search needs) (λ c κs. search needs) (λ c. search needs) returns)

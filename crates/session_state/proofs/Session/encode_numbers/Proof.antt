@@ -6,14 +6,8 @@ use borrow.Author.Needs.{needs}
 use Rattle.session_state.proofs.Session.encode_numbers.Statement.{statement}
 use Rattle.session_state.proofs.Session.encode_numbers.Tie as tie
 
-store-numbers-requires : tie.Need-store-numbers-requires
-store-numbers-requires c κs = search needs
-
-same-length : tie.Need-same-length
-same-length c = search needs
-
 returns : tie.Need-returns
 returns c = let s = c .before .before .before .before .before in numbered (headOf (s .args .self)) (s .args .self .hand) _ _ (s .pre .0) (λ k. refl) (s .pre .1) (c .before .before .store-numbers .ensures)
 
 pub encode-numbers-spec : {M : Type 1} → statement M
-encode-numbers-spec = tie.close (tie.spec store-numbers-requires same-length returns)
+encode-numbers-spec = tie.close (tie.spec (λ c κs. search needs) (λ c. search needs) returns)

@@ -9,9 +9,6 @@ use borrow.Author.Needs.{needs}
 use Rattle.session_state.proofs.Session.read.Statement.{statement}
 use Rattle.session_state.proofs.Session.read.Tie as tie
 
-is-signal-requires : tie.Need-is-signal-requires
-is-signal-requires c κs = search needs
-
 returns : tie.Need-returns
 returns c =
     let s = c .before .before .before .before in
@@ -45,4 +42,4 @@ returns-2 c =
 
 pub read-spec : {M : Type 1} → statement M
 read-spec =
-    tie.close (tie.spec is-signal-requires returns cast-value-of value-of-requires returns-2)
+    tie.close (tie.spec (λ c κs. search needs) returns cast-value-of value-of-requires returns-2)

@@ -13,12 +13,6 @@ use borrow.Author.Needs.{needs}
 use Rattle.session_state.proofs.Session.run.Statement.{statement}
 use Rattle.session_state.proofs.Session.run.Tie as tie
 
-cast-if1 : tie.Need-cast-if1
-cast-if1 c = search needs
-
-sub-if1 : tie.Need-sub-if1
-sub-if1 c = search needs
-
 returns : tie.Need-returns
 returns c =
     let s = c .before .before .before .before in
@@ -30,21 +24,12 @@ returns c =
     let l : 65535 < h .finished + k = omega (arith, c .if1 .taken) in
     (tells _ _ _ (run-refused panel program memory h k l) refl refl, memory-kept panel program memory h k (s .pre .1 .1 .0 .size) l)
 
-cast-t18 : tie.Need-cast-t18
-cast-t18 c = search needs
-
-run-requires : tie.Need-run-requires
-run-requires c κs = search needs
-
 add-t18 : tie.Need-add-t18
 add-t18 c =
     let s = c .before .before .before .before .before .before .before .before .before .before in
     let done = c .before .before .before .before .run .ensures .0 in
     let most = run-most (s .args .panel .now) (s .args .program .now) (memoryOf (s .args .memory .now)) (s .args .cycles) in
     omega (arith, done, most, c .before .before .before .before .before .before .if1 .left)
-
-same-length : tie.Need-same-length
-same-length c = search needs
 
 returns-2 : tie.Need-returns-2
 returns-2 c =
@@ -65,4 +50,4 @@ returns-2 c =
 pub run-spec : {M : Type 1} → statement M
 run-spec =
     tie.close
-    (tie.spec cast-if1 sub-if1 returns cast-t18 run-requires add-t18 same-length returns-2)
+    (tie.spec (λ c. search needs) (λ c. search needs) returns (λ c. search needs) (λ c κs. search needs) add-t18 (λ c. search needs) returns-2)

@@ -7,9 +7,6 @@ use borrow.Author.Needs.{needs}
 use Rattle.session_state.proofs.Session.set.Statement.{statement}
 use Rattle.session_state.proofs.Session.set.Tie as tie
 
-is-input-requires : tie.Need-is-input-requires
-is-input-requires c κs = search needs
-
 returns : tie.Need-returns
 returns c =
     let s = c .before .before .before in
@@ -25,9 +22,6 @@ returns-2 c =
     tells _ _ _
     (set-no-value (s .args .panel .now) program memory (headOf (s .args .self)) (s .args .input) (s .args .value) (passes _ _ (c .before .before .is-input .ensures) (c .before .if1 .left)) (c .if2 .taken))
     refl refl
-
-cast-with-value : tie.Need-cast-with-value
-cast-with-value c = search needs
 
 with-value-requires : tie.Need-with-value-requires
 with-value-requires c κs =
@@ -45,4 +39,4 @@ returns-3 c =
 pub set-spec : {M : Type 1} → statement M
 set-spec =
     tie.close
-    (tie.spec is-input-requires returns returns-2 cast-with-value with-value-requires returns-3)
+    (tie.spec (λ c κs. search needs) returns returns-2 (λ c. search needs) with-value-requires returns-3)

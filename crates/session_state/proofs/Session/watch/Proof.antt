@@ -7,9 +7,6 @@ use borrow.Author.Needs.{needs}
 use Rattle.session_state.proofs.Session.watch.Statement.{statement}
 use Rattle.session_state.proofs.Session.watch.Tie as tie
 
-is-signal-requires : tie.Need-is-signal-requires
-is-signal-requires c κs = search needs
-
 returns : tie.Need-returns
 returns c =
     let s = c .before .before .before in
@@ -33,9 +30,6 @@ cast-watched c =
     let n = s .pre .1 in
     omega arith
 
-cast-t12 : tie.Need-cast-t12
-cast-t12 c = search needs
-
 returns-3 : tie.Need-returns-3
 returns-3 c =
     let s = c .before .before .before .before .before .before in
@@ -45,4 +39,4 @@ returns-3 c =
     refl refl
 
 pub watch-spec : {M : Type 1} → statement M
-watch-spec = tie.close (tie.spec is-signal-requires returns returns-2 cast-watched cast-t12 returns-3)
+watch-spec = tie.close (tie.spec (λ c κs. search needs) returns returns-2 cast-watched (λ c. search needs) returns-3)

@@ -6,9 +6,6 @@ use borrow.Author.Needs.{needs}
 use Rattle.session_state.proofs.Session.with_value.Statement.{statement}
 use Rattle.session_state.proofs.Session.with_value.Tie as tie
 
-array-write-hand : tie.Need-array-write-hand
-array-write-hand c = search needs
-
 returns : tie.Need-returns
 returns c =
     let s = c .before .before .before in
@@ -16,4 +13,4 @@ returns c =
     valued _ _ _ (s .args .self .hand) (s .args .signal) (s .args .value) size (s .pre)
 
 pub with-value-spec : {M : Type 1} → statement M
-with-value-spec = tie.close (tie.spec array-write-hand returns)
+with-value-spec = tie.close (tie.spec (λ c. search needs) returns)
