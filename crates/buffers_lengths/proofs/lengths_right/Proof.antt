@@ -1,3 +1,4 @@
+-- The lengths one by one: the first that is wrong makes `sameLengths` false; else that of the memory decides.
 use Rattle.buffers_lengths.proofs.Sizes.{wrong-panel, wrong-program, by-memory}
 use Rattle.buffers_lengths.proofs.lengths_right.Statement.{statement}
 use Rattle.buffers_lengths.proofs.lengths_right.Tie as tie

@@ -1,3 +1,4 @@
+-- Columns 0 to 4 and 7 by computation; every other byte of the head is 0, by `head-zeros`.
 use mathlib.Core.Path.{sym}
 use Rattle.buffers_load.proofs.Panel.{head-zeros}
 use borrow.Author.Needs.{needs}

@@ -1,3 +1,4 @@
+-- A line's signal is at most 4096, so it indexes the array; an empty slot reads index 0, which holds 0 (`value-in`).
 use Prim.Native.Nat.{_<_}
 use Rattle.model.specs.ModuleFile.{modSlots}
 use Rattle.buffers_load.proofs.Fields.{signal-few}

@@ -1,3 +1,4 @@
+-- In a checked MOD the field of P is right (`processors-field`), and P is 1 to 16 (`processors-range`).
 use native.Mathlib.Omega.{arith}
 use Rattle.buffers_load.proofs.Fields.{processors-field, processors-range}
 use borrow.Author.Needs.{needs}

@@ -1,3 +1,4 @@
+-- In an accepted NET the field of N is right (`size-field`), and N is 1 to 4096 (`net-size`).
 use native.Mathlib.Omega.{arith}
 use Rattle.file_stim.proofs.InPlace.{size-field}
 use Rattle.model.proofs.Accepted.{net-size}

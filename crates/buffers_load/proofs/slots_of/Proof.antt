@@ -1,3 +1,4 @@
+-- In a checked MOD the field of C is right (`slots-field`), and C is 1 to 256 (`slots-range`).
 use native.Mathlib.Omega.{arith}
 use Rattle.buffers_load.proofs.Fields.{slots-field, slots-range}
 use borrow.Author.Needs.{needs}

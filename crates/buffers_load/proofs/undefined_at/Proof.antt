@@ -1,3 +1,4 @@
+-- By cases of s, as `undefinedTo` tests it: 0 and above N give 0, a signal gives U.
 use mathlib.Core.Path.{sym}
 use Rattle.buffers_load.proofs.Values.{undefined-none, undefined-above, undefined-signal}
 use Rattle.buffers_load.proofs.undefined_at.Statement.{statement}

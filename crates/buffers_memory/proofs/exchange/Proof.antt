@@ -1,3 +1,4 @@
+-- One swap of the local halves and one of the switch halves make the alternated memory at the location (`exchanged`).
 use Rattle.buffers_memory.proofs.Halves.{exchanged}
 use native.Mathlib.Omega.{arith}
 use borrow.Author.Needs.{needs}

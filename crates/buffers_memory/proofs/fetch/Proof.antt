@@ -1,3 +1,4 @@
+-- The byte read is that of the operand's part and location, which is what the machine fetches (`fetched-there`).
 use Rattle.buffers_memory.proofs.Fetched.{fetched-there}
 use borrow.Author.Needs.{needs}
 use Rattle.buffers_memory.proofs.fetch.Statement.{statement}

@@ -1,3 +1,4 @@
+-- By cases of the operand: each constant is 256 times the number of its part, 4 for none.
 use mathlib.Core.Path.{refl}
 use native.Mathlib.Omega.{arith}
 use borrow.Author.Needs.{needs}

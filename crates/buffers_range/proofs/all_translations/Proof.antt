@@ -1,3 +1,4 @@
+-- The largest of the bytes is the code of a translation exactly when all of them are (`largest-translations`).
 use mathlib.Core.Path.{_∙_, ap}
 use Rattle.gates.specs.Translation.{isTranslation}
 use Rattle.buffers_range.proofs.Runs.{largest-translations}

@@ -1,3 +1,4 @@
+-- The largest of the bytes is at most 3 exactly when all of them are (`largest-limit`).
 use mathlib.Core.Path.{_∙_, ap}
 use lib.Dec.{leb}
 use Prim.Native.Nat.{ℕ}

@@ -1,3 +1,4 @@
+-- The largest of the bytes is 0 exactly when all of them are (`largest-zeros`).
 use mathlib.Core.Path.{_∙_, ap}
 use lib.Dec.{eqb}
 use Prim.Native.Nat.{ℕ}

@@ -1,3 +1,4 @@
+-- The kind decides: zeros for an input; for a gate first the function, then the translations (`stops`, `goes-on`).
 use mathlib.Core.Path.{sym, _∙_}
 use borrow.Author.Tests.{eq-eqb, ne-eqb}
 use Rattle.buffers_range.proofs.Judged.{stops, goes-on}

@@ -1,3 +1,4 @@
+-- The lower limit decides where x is below it; else `and` leaves the upper one.
 use Rattle.logic.specs.Test.{_and_}
 use borrow.Author.Tests.{le-leb, lt-leb}
 use Rattle.buffers_range.proofs.counted.Statement.{statement}

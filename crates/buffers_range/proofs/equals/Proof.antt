@@ -1,3 +1,4 @@
+-- By the two ways of the branch, each with the value of `eqb` there.
 use borrow.Author.Tests.{eq-eqb, ne-eqb}
 use mathlib.Core.Path.{refl}
 use native.Mathlib.Omega.{arith}

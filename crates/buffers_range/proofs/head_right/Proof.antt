@@ -1,3 +1,4 @@
+-- The five numbers in the order of `headRanged`: the first out of range decides (`stops`), else the last (`goes-on`).
 use mathlib.Core.Path.{sym, _∙_}
 use Rattle.buffers_range.proofs.Judged.{stops, goes-on}
 use Rattle.buffers_range.specs.Ranges.{headRanged}

@@ -1,3 +1,4 @@
+-- Panel, program, memory: the first out of range decides. A panel in range bounds P and C, as the other two require.
 use mathlib.Core.Path.{sym, _∙_}
 use Rattle.buffers_range.proofs.Judged.{stops, goes-on, passes}
 use Rattle.buffers_range.proofs.Numbers.{ranged-panel}

@@ -1,3 +1,4 @@
+-- By the two ways of the branch, each with the value of `ltb` there.
 use Rattle.buffers_range.specs.Largest.{larger}
 use borrow.Author.Tests.{lt-ltb, le-ltb}
 use Rattle.buffers_range.proofs.larger_of.Statement.{statement}

@@ -1,3 +1,4 @@
+-- Judging the parts in order, with the panel's P and C, is judging every byte of the memory (`memory-order`).
 use mathlib.Core.Path.{_∙_}
 use Rattle.buffers_range.proofs.Parts.{memory-order}
 use borrow.Author.Needs.{needs}

@@ -1,3 +1,4 @@
+-- The sum of the four counts is 0 exactly when each of them is (`four-none`).
 use Rattle.buffers_range.proofs.Faults.{four-none}
 use Rattle.buffers_range.specs.Order.{operandsAt}
 use borrow.Author.Needs.{needs}

@@ -1,3 +1,5 @@
+-- Of the pair 9 0 the part is counted as a fault, so the subtraction does not go below 0 (`counted-low`);
+-- what is left is 0 exactly when the pair is in range (`counted-none`).
 use Rattle.buffers_range.proofs.Faults.{counted-low, counted-none}
 use borrow.Author.Needs.{needs}
 use native.Mathlib.Omega.{arith}

@@ -1,3 +1,4 @@
+-- The values first: one out of range decides (`stops`); else the zeros after them decide (`goes-on`).
 use mathlib.Core.Path.{sym, _∙_}
 use Rattle.buffers_range.proofs.Judged.{stops, goes-on}
 use Rattle.buffers_range.specs.Order.{partAt}

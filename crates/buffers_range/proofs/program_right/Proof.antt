@@ -1,3 +1,4 @@
+-- Judging the slots in order, with the panel's N, P and C, is judging every line of the program (`program-order`).
 use mathlib.Core.Path.{_∙_}
 use Rattle.buffers_range.proofs.Slots.{program-order}
 use borrow.Author.Needs.{needs}

@@ -1,3 +1,4 @@
+-- By the two ways of the branch, each with the value of `leb` there.
 use borrow.Author.Tests.{le-leb, lt-leb}
 use mathlib.Core.Path.{refl}
 use native.Mathlib.Omega.{arith}

@@ -1,3 +1,4 @@
+-- Kind, codes, value and place in the order of `signalRanged`: the first out of range decides, else the last.
 use mathlib.Core.Path.{sym, _∙_}
 use borrow.Author.Tests.{le-leb, lt-leb, le-ltb, lt-ltb}
 use Rattle.buffers_range.proofs.Judged.{stops, goes-on, no, yes}

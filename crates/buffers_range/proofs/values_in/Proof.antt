@@ -1,3 +1,4 @@
+-- By cases of the two tests, of the processor and of the part, which are those of `valuesIn`.
 use borrow.Author.Tests.{le-ltb, lt-ltb}
 use mathlib.Core.Path.{refl}
 use Rattle.logic.specs.Test.{_and_}

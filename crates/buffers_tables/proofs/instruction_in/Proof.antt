@@ -1,3 +1,4 @@
+-- The signal, the five pairs (`pair-there`) and the sender are each read where the line has them.
 use mathlib.Core.Path.{_∙_, ap}
 use Prim.Native.Nat.{_+_, _*_}
 use Rattle.buffers_tables.specs.Panel.{word}

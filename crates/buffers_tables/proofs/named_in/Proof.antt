@@ -1,3 +1,4 @@
+-- `operand_of` gets the two bytes of the pair; widening the first keeps its number.
 use borrow.Author.Needs.{needs}
 use Rattle.buffers_tables.proofs.named_in.Statement.{statement}
 use Rattle.buffers_tables.proofs.named_in.Tie as tie

@@ -1,3 +1,4 @@
+-- By cases of the code, which tests as `extended` does.
 use Rattle.logic.proofs.Tests.{decided}
 use Rattle.fields.specs.Scan.{extended}
 use borrow.Author.Needs.{needs}

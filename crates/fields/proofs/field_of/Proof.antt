@@ -1,3 +1,4 @@
+-- By cases of the scan state, each by computation.
 use borrow.Author.Needs.{needs}
 use Rattle.fields.proofs.field_of.Statement.{statement}
 use Rattle.fields.proofs.field_of.Tie as tie

@@ -1,3 +1,4 @@
+-- By cases of the byte: below the digits, above them, or a digit, which `extend` puts after the number.
 use Rattle.logic.proofs.Tests.{decided}
 use Rattle.fields.specs.Scan.{scan}
 use Rattle.fields.proofs.Digit.{digit-within, digit-below, digit-above}

@@ -1,3 +1,4 @@
+-- The low halves of a right field's bytes spell its number (`number-low`), which fits in 16 bits (`number-small`).
 use mathlib.Core.Path.{sym, _∙_}
 use native.Mathlib.Omega.{arith}
 use Rattle.fields.proofs.LowHalf.{field-length, number-small, number-low}

@@ -1,3 +1,4 @@
+-- Where six bytes remain, scanning them in order reads the field (`field-found`); where fewer do, it is misformed (`field-none`).
 use mathlib.Core.Path.{sym, _∙_}
 use native.Mathlib.Omega.{arith}
 use Rattle.fields.specs.Scan.{scans}

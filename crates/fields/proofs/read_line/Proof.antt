@@ -1,3 +1,4 @@
+-- The invariant: the first k fields are right, and `place` is where the next begins. Then byte 10 decides.
 use Prim.Native.Nat.{_≤_, _-_, _+_, _*_}
 use mathlib.Core.Path.{_≡_, sym, _∙_}
 use mathlib.Core.Bool.{true}

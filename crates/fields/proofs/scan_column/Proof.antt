@@ -1,3 +1,4 @@
+-- By cases of the scan state: `first_column` or `next_column` answers, and `Bad` stays `Bad`.
 use Rattle.fields.specs.Scan.{scan}
 use borrow.Author.Needs.{needs}
 use Rattle.fields.proofs.scan_column.Statement.{statement}

@@ -1,3 +1,4 @@
+-- The counts of zeros and of ones decide AND (`conjunction-zero`, `conjunction-one`, `conjunction-else`).
 use mathlib.Core.Path.{sym}
 use native.Mathlib.Omega.{arith}
 use Rattle.gates.proofs.Counted.{conjunction-zero, conjunction-one, conjunction-else}

@@ -1,3 +1,4 @@
+-- By cases of f, as `function` tests it, with what `and4`, `xor4`, `select` and `majority3` promise.
 use Rattle.logic.proofs.Tests.{decided}
 use Rattle.gates.specs.Function.{function}
 use borrow.Author.Needs.{needs}

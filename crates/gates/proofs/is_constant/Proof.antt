@@ -1,3 +1,4 @@
+-- The comparison is `isConstant`, unfolded.
 use Rattle.gates.specs.Translation.{isConstant}
 use borrow.Author.Needs.{needs}
 use Rattle.gates.proofs.is_constant.Statement.{statement}

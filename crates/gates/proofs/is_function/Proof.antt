@@ -1,3 +1,4 @@
+-- The comparison is `isFunction`, unfolded.
 use Rattle.gates.specs.Function.{isFunction}
 use borrow.Author.Needs.{needs}
 use Rattle.gates.proofs.is_function.Statement.{statement}

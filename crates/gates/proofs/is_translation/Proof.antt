@@ -1,3 +1,4 @@
+-- The comparison is `isTranslation`, unfolded.
 use Rattle.gates.specs.Translation.{isTranslation}
 use borrow.Author.Needs.{needs}
 use Rattle.gates.proofs.is_translation.Statement.{statement}

@@ -1,3 +1,4 @@
+-- By cases of g: a constant by computation, inversion gives U (`literal-inverted`), the others give v (`literal-same`).
 use mathlib.Core.Path.{sym}
 use Rattle.logic.proofs.Tests.{decided}
 use Rattle.gates.specs.Translation.{translation, isConstant}

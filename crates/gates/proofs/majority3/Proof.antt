@@ -1,3 +1,4 @@
+-- The counts of zeros and of ones decide MAJORITY (`majority-zero`, `majority-one`, `majority-else`); U counts for neither.
 use mathlib.Core.Path.{sym}
 use native.Mathlib.Omega.{arith}
 use Rattle.gates.proofs.Counted.{majority-zero, majority-one, majority-else}

@@ -1,3 +1,4 @@
+-- By the two ways of the branch, which tests as `is` does.
 use Rattle.logic.proofs.Tests.{decided}
 use borrow.Author.Needs.{needs}
 use Rattle.gates.proofs.matches.Statement.{statement}

@@ -1,3 +1,4 @@
+-- `count` of four values unfolds to the sum of what `matches` promises for each.
 use native.Mathlib.Omega.{arith}
 use Rattle.logic.specs.Test.{count}
 use borrow.Author.Needs.{needs}

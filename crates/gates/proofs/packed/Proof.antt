@@ -1,3 +1,4 @@
+-- The two bits of g and v in the number are their translation, by one computed test over all 28 (`entry-right`).
 use Rattle.gates.proofs.Translations.{entry-right}
 use borrow.Author.Needs.{needs}
 use Rattle.gates.proofs.packed.Statement.{statement}

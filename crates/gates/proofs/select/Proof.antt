@@ -1,3 +1,4 @@
+-- By cases of the code, as `selection` tests it; a value is known exactly when it is below 2 (`known-below`, `known-above`).
 use Rattle.logic.proofs.Tests.{decided}
 use Rattle.logic.specs.Test.{_and_}
 use Rattle.gates.specs.Function.{selection}

@@ -1,3 +1,4 @@
+-- A code above 6 gives U (`not-supplied`); the other two ways are what `literal` and `packed` promise.
 use mathlib.Core.Path.{sym}
 use Rattle.gates.proofs.Translations.{not-supplied}
 use borrow.Author.Needs.{needs}

@@ -1,3 +1,4 @@
+-- The count of halves that are 1 decides XOR: U where there are any (`parity-unknown`), else the parity (`parity-known`).
 use mathlib.Core.Path.{sym}
 use native.Mathlib.Omega.{arith}
 use Rattle.gates.proofs.Counted.{parity-unknown, parity-known}

@@ -1,3 +1,4 @@
+-- By cases of the part, as `operandOf` tests it.
 use Rattle.logic.proofs.Tests.{decided}
 use Rattle.instruction.specs.Operand.{operandOf}
 use borrow.Author.Needs.{needs}

@@ -1,3 +1,4 @@
+-- Below P it is right; otherwise whether it is 99 decides, as in `senderLaid`.
 use Rattle.logic.proofs.Tests.{decided}
 use Rattle.logic.specs.Test.{_or_}
 use Rattle.instruction.specs.Sender.{senderLaid}

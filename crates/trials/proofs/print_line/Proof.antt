@@ -1,3 +1,4 @@
+-- Only safety is proved: at most 21 numbers make a line of at most 127 bytes, so it ends within the 128.
 use mathlib.Core.Path.{sym}
 use lib.Seq.{length-take-le}
 use borrow.Author.Needs.{needs}

@@ -1,3 +1,4 @@
+-- By cases of the code, as `columnOf` tests it; the last column shows the digit 0 of the number 0 (`column-last`).
 use mathlib.Core.Path.{sym}
 use Rattle.logic.proofs.Tests.{decided}
 use Rattle.logic.specs.Test.{_or_}

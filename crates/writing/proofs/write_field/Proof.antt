@@ -1,3 +1,4 @@
+-- A store keeps the length, so all six lie within the slice; together they are the field's text (`field-stored`).
 use native.Mathlib.Omega.{arith}
 use lib.ListN.{length-set}
 use Rattle.writing.proofs.Writing.{field-stored}

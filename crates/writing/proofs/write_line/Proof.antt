@@ -1,3 +1,4 @@
+-- The invariant: the fields of the first k numbers are written, and `place` is after them. Byte 10 ends the line (`line-stored`).
 use Prim.Native.Nat.{_≤_, _-_, _+_, _*_}
 use mathlib.Core.Path.{_≡_, _∙_}
 use mathlib.Core.List.{flatMap}

@@ -1,3 +1,4 @@
+-- What `translate` and `apply` promise, put together, is `gate`.
 use Rattle.gates.specs.Gate.{gate}
 use borrow.Author.Needs.{needs}
 use Rattle.gates.proofs.Gate.value.Statement.{statement}
