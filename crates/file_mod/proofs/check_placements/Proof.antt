@@ -1,3 +1,4 @@
+-- The counts are the placements of each signal, so the smallest not counted once is the answer of 22 (`counted-placed`).
 use mathlib.Core.Path.{_∙_}
 use native.Mathlib.Omega.{arith}
 use lib.ListN.{getD-replicate}

@@ -1,3 +1,5 @@
+-- Each field of a right line is right where it is read, and is the module's number (`field-read`, `pair-read`);
+-- locations and sender are below 256, so that they fit in a byte.
 use Prim.Native.Nat.{_+_}
 use mathlib.Core.Path.{_∙_}
 use native.Mathlib.Omega.{arith}

@@ -1,3 +1,4 @@
+-- Only `None` has part 9: an operand that is another case has another part (`none-apart`).
 use Rattle.file_mod.proofs.Named.{none-apart}
 use Rattle.file_mod.proofs.Told.{not-none}
 use borrow.Author.Needs.{needs}

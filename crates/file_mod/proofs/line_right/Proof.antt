@@ -1,3 +1,4 @@
+-- By cases of the test: each is what the function for it promises.
 use borrow.Author.Needs.{needs}
 use Rattle.file_mod.proofs.line_right.Statement.{statement}
 use Rattle.file_mod.proofs.line_right.Tie as tie

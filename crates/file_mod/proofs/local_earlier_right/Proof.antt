@@ -1,3 +1,4 @@
+-- The kind, then the signal at the location, in the order of `reads-local-earlier`: the first that is wrong decides.
 use mathlib.Core.Path.{refl, sym, ap, _∙_}
 use Prim.Native.Nat.{ℕ}
 use lib.Dec.{eqb}

@@ -1,3 +1,4 @@
+-- The kind, k < i, then the signal there, in the order of `reads-local-present`: the first that is wrong decides.
 use mathlib.Core.Path.{refl, sym, ap, _∙_}
 use Prim.Native.Nat.{ℕ}
 use lib.Dec.{eqb}

@@ -1,3 +1,4 @@
+-- `operand_of` gets the two numbers read; the first field lies within the file, so `at + 6` does not overflow.
 use native.Mathlib.Omega.{arith}
 use Rattle.fields.proofs.LowHalf.{field-length}
 use borrow.Author.Needs.{needs}

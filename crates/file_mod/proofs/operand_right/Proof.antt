@@ -1,3 +1,5 @@
+-- An empty slot, an input and a source 0 want none (`operand-empty`, `operand-input`, `operand-free`);
+-- for any other source `reads_source` decides (`operand-reads`).
 use Prim.Native.Nat.{_+_, _*_}
 use mathlib.Core.Path.{refl, _∙_}
 use native.Mathlib.Omega.{arith}

@@ -1,3 +1,4 @@
+-- The four operands in order (`all-4`): the first that is not right decides, by `chain-stops`; else the fourth does.
 use mathlib.Core.Path.{sym, _∙_, ap}
 use native.Mathlib.Omega.{arith}
 use Rattle.instruction.specs.declared.Instruction.{Instruction}

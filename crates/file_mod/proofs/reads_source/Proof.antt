@@ -1,3 +1,4 @@
+-- By cases of the operand: each part has its own function, and none reads no source (`reads-none`).
 use mathlib.Core.Path.{sym, ap}
 use native.Mathlib.Omega.{arith}
 use Rattle.instruction.specs.Operand.{locationOf}

@@ -1,3 +1,4 @@
+-- By cases of the test, each by computation.
 use borrow.Author.Needs.{needs}
 use Rattle.file_mod.proofs.refused_at.Statement.{statement}
 use Rattle.file_mod.proofs.refused_at.Tie as tie

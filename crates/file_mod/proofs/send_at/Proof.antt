@@ -1,3 +1,4 @@
+-- Columns 11 and 12 of a right line are the send's pair (`field-read`); its location fits in a byte (`send-small`).
 use Prim.Native.Nat.{_+_}
 use mathlib.Core.Path.{_∙_}
 use native.Mathlib.Omega.{arith}

@@ -1,3 +1,4 @@
+-- Column 13 of a right line is the processor received from (`field-read`), which fits in a byte (`sender-small`).
 use Prim.Native.Nat.{_+_}
 use mathlib.Core.Path.{_∙_}
 use native.Mathlib.Omega.{arith}

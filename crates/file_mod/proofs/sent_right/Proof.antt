@@ -1,3 +1,5 @@
+-- Where nothing is received (`sent-none`), or the send is of another part or none (`sent-apart`), the answer is no;
+-- where the send is of the part wanted, the sent signal is compared with the source (`sent-same`).
 use Prim.Native.Nat.{ℕ, _<_}
 use Rattle.model.specs.ModuleFile.{moduleOf}
 use mathlib.Core.Path.{_≡_, sym, ap, _∙_}

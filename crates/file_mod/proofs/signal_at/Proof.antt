@@ -1,3 +1,4 @@
+-- Column 2 of a right line is the signal of its processor and slot (`field-read`).
 use Prim.Native.Nat.{_+_}
 use mathlib.Core.Path.{_∙_}
 use native.Mathlib.Omega.{arith}

@@ -1,3 +1,4 @@
+-- By the two ways of the branch, which tests as `wantedSend` does.
 use Rattle.logic.proofs.Tests.{decided}
 use borrow.Author.Needs.{needs}
 use Rattle.file_mod.proofs.wanted_send.Statement.{statement}

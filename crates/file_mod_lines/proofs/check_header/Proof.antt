@@ -1,3 +1,4 @@
+-- A law of `Header` for each way: 20 where line 1 is broken, 21 at the first number out of range; then the zeros decide.
 use mathlib.Core.Path.{sym, _∙_}
 use native.Mathlib.Omega.{arith}
 use Rattle.model.specs.Refusal.{unless}

@@ -1,3 +1,4 @@
+-- P × C + 1 lines of 85 bytes are all that MOD may have: a longer file gives `surplus`, any other `no-surplus`.
 use mathlib.Core.Path.{refl, sym}
 use Rattle.file_mod_lines.proofs.Lines.{surplus, no-surplus}
 use borrow.Author.Needs.{needs}

@@ -1,3 +1,4 @@
+-- The product is at most 16 × 256 = 4096 (`mul-le-mul`), so it does not overflow.
 use native.Mathlib.Omega.{arith}
 use native.Mathlib.Nat.{mul-le-mul}
 use borrow.Author.Needs.{needs}

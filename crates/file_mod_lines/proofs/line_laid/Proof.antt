@@ -1,3 +1,4 @@
+-- `lineAt` in its order: the first number or pair that is wrong decides, by `equal-stops`, `most-stops` or `chain-stops`.
 use Prim.Native.Nat.{_+_}
 use mathlib.Core.Path.{sym, _∙_}
 use native.Mathlib.Omega.{arith}

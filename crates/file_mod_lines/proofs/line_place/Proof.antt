@@ -1,3 +1,4 @@
+-- processor × slots is at most 15 × 256 (`mul-le-mul`), so the place is at most 85 × 4096 and nothing overflows.
 use native.Mathlib.Omega.{arith}
 use native.Mathlib.Nat.{mul-le-mul}
 use borrow.Author.Needs.{needs}

@@ -1,3 +1,4 @@
+-- The four pairs one after the other: the first that is wrong decides, by `chain-stops`; else the fourth does.
 use Prim.Native.Nat.{_+_}
 use mathlib.Core.Path.{sym, _∙_}
 use native.Mathlib.Omega.{arith}

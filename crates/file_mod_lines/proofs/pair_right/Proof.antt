@@ -1,3 +1,4 @@
+-- By cases of the code: the location is not below C (`pair-far`), part 9 (`pair-none`), another part (`pair-part`).
 use mathlib.Core.Path.{sym}
 use Rattle.file_mod_lines.proofs.Judged.{pair-far, pair-none, pair-part}
 use Rattle.file_mod_lines.proofs.pair_right.Statement.{statement}

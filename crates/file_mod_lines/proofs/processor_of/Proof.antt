@@ -1,3 +1,4 @@
+-- A quotient is at most k (`div-le-self`), so it fits in 16 bits.
 use native.Mathlib.Omega.{arith}
 use native.Mathlib.Nat.{div-le-self}
 use borrow.Author.Needs.{needs}

@@ -1,3 +1,4 @@
+-- A remainder is below `slots` (`mod-lt`), so it fits in 16 bits.
 use native.Mathlib.Omega.{arith}
 use native.Mathlib.Nat.{mod-lt}
 use borrow.Author.Needs.{needs}

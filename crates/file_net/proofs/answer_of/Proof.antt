@@ -1,3 +1,4 @@
+-- By cases of the fault, as `answerOf` tests it.
 use Rattle.logic.proofs.Tests.{decided}
 use borrow.Author.Needs.{needs}
 use Rattle.file_net.proofs.answer_of.Statement.{statement}

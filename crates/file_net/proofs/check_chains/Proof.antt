@@ -1,3 +1,4 @@
+-- The loaded arrays are the graph of the rank-order gates (`graph`): its smallest node on a loop is 13's signal, 0 is none.
 use Rattle.file_net.proofs.Closed.{graph}
 use Rattle.file_net.proofs.Joined.{chain-found, chain-none}
 use borrow.Author.Needs.{needs}

@@ -1,3 +1,4 @@
+-- A law of `Header` for each way: 10 where line 1 is broken, 11 at the first number that is wrong, else N is accepted.
 use mathlib.Core.Path.{sym, _∙_, refl}
 use native.Mathlib.Omega.{arith}
 use borrow.Author.Tests.{not-true, not-false}

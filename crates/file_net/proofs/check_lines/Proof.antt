@@ -1,3 +1,5 @@
+-- The invariants: the lines before `line` pass, and its first `column` fields are right. Each way out of the loops has
+-- its own answer: `judged-10`, `judged-11`, `judged-12`, `judged-all`.
 use Prim.Native.Nat.{suc, _≤_, _-_, _+_, _*_}
 use mathlib.Core.Path.{_≡_, sym, _∙_}
 use mathlib.Core.Logic.{⊎-elim}

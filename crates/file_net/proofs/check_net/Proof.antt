@@ -1,3 +1,4 @@
+-- Each stage that accepts passes (`stage-pass`) and leaves what the next one requires; the first that refuses answers for all.
 use Rattle.file_net.proofs.Joined.{refusal-of, stage-pass, stop-header, size-small, lines-stop, surplus-stops, chains-answer, lines-right}
 use borrow.Author.Needs.{needs}
 use Rattle.file_net.proofs.check_net.Statement.{statement}

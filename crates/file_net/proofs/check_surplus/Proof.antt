@@ -1,3 +1,4 @@
+-- N + 1 lines of 73 bytes are all that NET may have: a longer file gives `surplus-some`, any other `surplus-none`.
 use mathlib.Core.Path.{refl}
 use Rattle.file_net.proofs.Faults.{refused, passed}
 use Rattle.file_net.proofs.Header.{surplus-none, surplus-some}

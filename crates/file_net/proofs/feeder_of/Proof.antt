@@ -1,3 +1,4 @@
+-- By cases of the marks of gate and source; a source is at most N (`Lines`), so it has a mark.
 use Prim.Native.Nat.{_/_, _%_}
 use mathlib.Core.Path.{sym}
 use native.Mathlib.Omega.{arith}

@@ -1,3 +1,4 @@
+-- A field of a right line is right (`line-field`), as `number_at` requires.
 use Rattle.model.proofs.RightLine.{line-field}
 use borrow.Author.Needs.{needs}
 use Rattle.file_net.proofs.field.Statement.{statement}

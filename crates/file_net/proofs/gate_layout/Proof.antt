@@ -1,3 +1,4 @@
+-- Kind too low, kind too high, function not supplied, else the translations decide: a law of `Layouts` for each way.
 use mathlib.Core.Path.{sym, _∙_, ap}
 use borrow.Author.Tests.{not-true, not-false}
 use Rattle.gates.specs.Function.{isFunction}

@@ -1,3 +1,4 @@
+-- Another kind is no input (`input-no`); for kind 1 the ten zeros decide (`input-zeros`).
 use mathlib.Core.Path.{sym, _∙_}
 use Rattle.file_net.proofs.Layouts.{input-no, input-zeros}
 use borrow.Author.Needs.{needs}

@@ -1,3 +1,4 @@
+-- The invariant: the entries 4 to 3 + k hold their feeders, and the others are as they were (`edgesTo`).
 use Rattle.file_net.proofs.Loading.{edges-more, edges-end}
 use Prim.Native.Nat.{_≤_, _-_, _*_}
 use mathlib.Core.Path.{_≡_}

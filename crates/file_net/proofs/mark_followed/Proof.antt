@@ -1,3 +1,4 @@
+-- The invariant: signals 1 to k have their marks, and the others are as they were (`followTo`).
 use Rattle.file_net.proofs.Loading.{follow-more, follow-ends}
 use Prim.Native.Nat.{_≤_, _-_}
 use mathlib.Core.Path.{_≡_}

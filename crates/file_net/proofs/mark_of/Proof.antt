@@ -1,3 +1,4 @@
+-- By the two ways of the branch, each by computation.
 use Rattle.logic.proofs.Tests.{decided}
 use borrow.Author.Needs.{needs}
 use Rattle.file_net.proofs.mark_of.Statement.{statement}

@@ -1,3 +1,4 @@
+-- Another number is wrong (`layout-other`); else an input is right (`layout-input`), or the gate decides (`layout-gate`).
 use mathlib.Core.Path.{sym, _∙_}
 use Rattle.file_net.proofs.Layouts.{layout-other, layout-input, layout-gate}
 use borrow.Author.Needs.{needs}

@@ -1,3 +1,4 @@
+-- By cases of the source: above N (`source-high`), a signal (`source-some`), or 0, where g decides (`source-none`).
 use mathlib.Core.Path.{sym, _∙_, ap}
 use Rattle.gates.specs.Translation.{isConstant}
 use Rattle.file_net.proofs.Layouts.{source-high, source-some, source-none}

@@ -1,3 +1,4 @@
+-- An input has no sources to judge (`sources-input`). For a gate the invariant: its first j sources are right.
 use Prim.Native.Nat.{_≤_, _-_}
 use mathlib.Core.Path.{_≡_, sym, _∙_}
 use mathlib.Core.Bool.{true}

@@ -1,3 +1,4 @@
+-- The invariant: the first k of the ten fields are 0.
 use Prim.Native.Nat.{_≤_, _-_, _+_}
 use mathlib.Core.Path.{_≡_, sym, _∙_}
 use mathlib.Core.Bool.{true}

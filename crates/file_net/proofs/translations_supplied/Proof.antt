@@ -1,3 +1,4 @@
+-- The invariant: the first k of the five translations are supplied.
 use Prim.Native.Nat.{_≤_, _-_, _+_}
 use mathlib.Core.Path.{_≡_, sym, _∙_, ap}
 use mathlib.Core.Bool.{true}
