@@ -1,3 +1,4 @@
+-- All slots and then the change of the halves, on the bytes, are the model's cycle (`cycle-done`).
 use Rattle.buffers_tables.specs.Panel.{handIn}
 use Rattle.buffers_tables.specs.Tables.{networkIn, moduleIn}
 use Rattle.machine_run.proofs.Cycles.{cycle-done}

@@ -1,3 +1,4 @@
+-- By cases of the value: the bit of its weight (`watched-bit`); a mask up to 15 has none for a value above 3 (`watched-none`).
 use Prim.Native.Nat.{ℕ, _/_, _%_, _^_}
 use mathlib.Core.Path.{ap}
 use Rattle.machine_run.proofs.Masks.{watched-bit, watched-none}

@@ -1,3 +1,4 @@
+-- The operand names the place that the panel has for the signal, in the earlier local half; `fetch` reads it.
 use mathlib.Core.Path.{_∙_, ap}
 use Prim.Native.Nat.{ℕ}
 use Rattle.model.specs.Machine.{fetch}

@@ -1,3 +1,4 @@
+-- By cases of the line, as `evaluatedOn` tests it: an empty slot, an input, or a gate by `gate_on`.
 use Rattle.machine_slot.specs.Storing.{evaluatedOn}
 use borrow.Author.Tests.{eq-eqb, ne-eqb}
 use borrow.Author.Needs.{needs}

@@ -1,3 +1,4 @@
+-- Codes and operands are those that `gateOn` names, as `gate_in` and the four calls of `fetch` promise.
 use Rattle.machine_slot.specs.Storing.{gateOn}
 use borrow.Author.Needs.{needs}
 use Rattle.machine_slot.proofs.gate_on.Statement.{statement}

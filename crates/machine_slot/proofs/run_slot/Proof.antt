@@ -1,3 +1,4 @@
+-- The arrays have every processor's result and sent value; stored, they make the model's slot (`slot-finished`).
 use Rattle.buffers_tables.specs.Panel.{handIn}
 use Rattle.buffers_tables.specs.Tables.{networkIn, moduleIn}
 use Rattle.machine_slot.proofs.Slots.{slot-finished}

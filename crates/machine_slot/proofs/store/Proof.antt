@@ -1,3 +1,4 @@
+-- The two stores write what `storing` has at the location (`both-stored`); a processor received from is below 16 (`sender-fits`).
 use Rattle.buffers_tables.specs.Tables.{moduleIn}
 use Rattle.machine_slot.proofs.Fetching.{sender-fits}
 use Rattle.machine_slot.proofs.Slots.{both-stored}

@@ -1,3 +1,4 @@
+-- Where a processor is received from, its value is stored at the place (`store-some`); else no byte changes (`store-none`).
 use lib.ListN.{getD}
 use Rattle.model.specs.Module.{switchPresent, noSender}
 use Prim.Native.Nat.{_+_, _*_}

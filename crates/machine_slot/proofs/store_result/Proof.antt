@@ -1,3 +1,4 @@
+-- Where the slot has a signal, the value is stored at the place (`store-some`); else no byte changes (`store-none`).
 use Prim.Native.Nat.{_+_, _*_}
 use Rattle.model.specs.Module.{localPresent}
 use Rattle.buffers_memory.specs.Memory.{place}

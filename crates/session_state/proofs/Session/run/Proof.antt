@@ -1,3 +1,5 @@
+-- 43 leaves head and memory as they were (`run-refused`, `memory-kept`); else the machine's run is the model's
+-- (`run-done`), of at most k cycles (`run-most`), so that the cycles finished stay below 65536.
 use Prim.Native.Nat.{ℕ, _+_, _≤_, _<_}
 use mathlib.Core.Path.{refl, sym, _∙_, ap}
 use Rattle.model.specs.Machine.{Memory}
