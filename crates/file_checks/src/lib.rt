@@ -1,13 +1,11 @@
-// The three file checks one after the other, for the opening, and as one number for tests and measurements in C.
+// The three file checks one after the other.
 
 ghost use mathlib.Core.Path.{_≡_};
-ghost use Prim.Native.Nat.{_+_, _*_};
 ghost use Rattle.model.specs.Acceptance.{panelLimit, fileCheck};
 ghost use Rattle.file_net.specs.Answer.{netRefusal};
 ghost use Rattle.file_mod_lines.specs.Answer.{modRefusal};
 ghost use Rattle.file_stim.specs.Answer.{stimRefusal};
 ghost use Rattle.file_checks.specs.Answer.{fileRefusal};
-ghost use Rattle.file_checks.specs.Code.{checked};
 use file_mod_lines::ModAnswer;
 use file_net::NetAnswer;
 use file_stim::StimAnswer;
@@ -71,22 +69,4 @@ pub fn check_files(net: &[u8], modfile: &[u8], stim: &[u8]) -> FileAnswer
         return mod_answer(second);
     };
     stim_answer(file_stim::check_stim(net, stim))
-}
-
-// A refusal's number and what it returns, as one number.
-fn coded(number: u8, returned: u16) -> u64
-    ensures { λ r. ⌜ r ≡ 65536 * number + returned ⌝ }
-{
-    65536 * (number as u64) + (returned as u64)
-}
-
-// The three files' check as one number.
-#[no_mangle]
-pub extern "C" fn cavundir_check_files(net: &[u8], modfile: &[u8], stim: &[u8]) -> u64
-    ensures { λ r. ⌜ r ≡ checked (now (net .entry)) (now (modfile .entry)) (now (stim .entry)) ⌝ }
-{
-    let FileAnswer::Refused(number, returned) = check_files(net, modfile, stim) else {
-        return 0;
-    };
-    coded(number, returned)
 }
