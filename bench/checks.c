@@ -33,7 +33,7 @@ static uint32_t processors, slots;
 
 static uint64_t refusal(uint64_t number, uint64_t returned)
 {
-    return 65536 * number + returned;
+    return number << 56 | returned;
 }
 
 /* A number right-justified in six columns, or -1. */

@@ -1,10 +1,9 @@
 #!/usr/bin/env python3
 """Times the checks of NET, MOD and STIM on the largest files, and NET's on networks that are hard for 13.
 
-Prints ms, the fastest of several calls, and exits 1 where an answer is wrong. With an argument it times that shared
-object in place of the one that it makes of target/staticlib.
+Prints ms, the fastest of several calls, and exits 1 where an answer is wrong. With an argument it times that
+archive in place of the one in target/staticlib.
 """
-import ctypes
 import random
 import sys
 import time
@@ -40,7 +39,7 @@ def rows():
         yield name, (generate.text(network), b"", b""), refusal or (20, 1)
 
 
-check = library.check_files(ctypes.CDLL(sys.argv[1]) if len(sys.argv) > 1 else library.load("file_checks"))
+check = library.check_files(library.load(sys.argv[1] if len(sys.argv) > 1 else library.archive()))
 wrong = 0
 print(f"{'ms':>9}  answer    files")
 for name, files, expected in rows():

@@ -5,6 +5,7 @@
 #include <string.h>
 #include <time.h>
 
+#include "cavundir.h"
 #include "checks.h"
 
 enum { PROCESSORS = 16, SLOTS = 256, SIGNALS = PROCESSORS * SLOTS, STIM_LINES = 65534 };
@@ -79,7 +80,7 @@ static void check(void)
 {
     stim[STIM_LENGTH] = '\n';
     for (size_t more = 0; more < 2; more++) {
-        uint64_t wanted = more ? 65536 * 30 + STIM_LINES + 1 : 0;
+        uint64_t wanted = more ? (uint64_t)CAVUNDIR_STIM_MISFORMED << 56 | (STIM_LINES + 1) : 0;
         uint64_t x = cavundir_check_files(net, NET_LENGTH, mod, MOD_LENGTH, stim, STIM_LENGTH + more);
         uint64_t y = c_check_files(net, NET_LENGTH, mod, MOD_LENGTH, stim, STIM_LENGTH + more);
         if (x != wanted || y != wanted) {

@@ -5,6 +5,7 @@
 #include <string.h>
 #include <unistd.h>
 
+#include "cavundir.h"
 #include "checks.h"
 #include "machine.h"
 
@@ -192,7 +193,7 @@ int main(void)
     uint64_t refusal = c_check_files(net, net_length, mod, mod_length, stim, stim_length);
 
     if (refusal != 0) {
-        uint8_t *end = put_field(put_field(piece, refusal / 65536), refusal % 65536);
+        uint8_t *end = put_field(put_field(piece, cavundir_refusal(refusal)), cavundir_returned(refusal));
         *end = '\n';
         return !write_all(piece, end + 1 - piece);
     }

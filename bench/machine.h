@@ -1,5 +1,5 @@
 /* The lockstep machine over the working buffers (docs/PANEL.md), and a network evaluated without them, in C (machine.c). Rattle's
- * machine is cavundir_run of the session's archive. */
+ * machine is cavundir_run of the panel's archive. */
 #ifndef MACHINE_H
 #define MACHINE_H
 

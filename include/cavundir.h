@@ -25,16 +25,20 @@
 extern "C" {
 #endif
 
+/* The version of this header and of the archive that it belongs to: 100 for each whole number, 1 for each after the point. */
+#define CAVUNDIR_VERSION 100
+#define CAVUNDIR_VERSION_TEXT "1.0"
+
 /* The lengths of the working buffers. With any other length a call is refused. */
 #define CAVUNDIR_PANEL_BYTES 40970
 #define CAVUNDIR_PROGRAM_BYTES 53248
 #define CAVUNDIR_MEMORY_BYTES 20480
 
-/* The numbers of the refusals, and what each returns. Lines are counted from 1. */
+/* The numbers of the refusals, and what each returns. Lines are counted from 1. cavundir_text says each in a sentence. */
 enum cavundir_number {
     CAVUNDIR_NOT_REFUSED = 0,
 
-    /* by the opening, of a file; the returned value is a line, or the smallest such signal */
+    /* by the opening and the check, of a file; the returned value is a line, or the smallest such signal */
     CAVUNDIR_NET_MISFORMED = 10,    /* line: misformed, missing or surplus */
     CAVUNDIR_NET_LAYOUT = 11,       /* line: a value, a fixed zero or the order is wrong */
     CAVUNDIR_NET_SOURCE = 12,       /* line: a source above N, or source 0 with a translation above 3 */
@@ -49,7 +53,7 @@ enum cavundir_number {
     CAVUNDIR_STIM_LAYOUT = 31,      /* line: a value, a fixed zero or the order is wrong */
     CAVUNDIR_STIM_NO_INPUT = 32,    /* line: a time after 0 on a signal that is no input */
 
-    /* by any call */
+    /* by any call that is lent working buffers */
     CAVUNDIR_LENGTH = 40,           /* 0: a working buffer has a wrong length */
 
     /* by set, watch, read and run */
@@ -59,6 +63,12 @@ enum cavundir_number {
     CAVUNDIR_DAMAGED = 44           /* 0: no session is in the buffers, a number in them is out of its range, or a byte
                                        that holds no number is not 0; whether the tables belong together is not judged */
 };
+
+/* Checks the three files alone. It answers what an opening on working buffers of the right lengths answers: not refused
+ * where the files are accepted, else the refusal. It writes nothing. */
+uint64_t cavundir_check_files(const uint8_t *net, size_t net_bytes,
+                              const uint8_t *mod, size_t mod_bytes,
+                              const uint8_t *stim, size_t stim_bytes);
 
 /* Opens a session on the bytes of the three files: 0 cycles finished, every signal at its value of time 0, the watch on
  * signal 1 with mask 0. All bytes of the working buffers are written, whatever was in them. Where it is refused, every
@@ -109,6 +119,53 @@ static inline unsigned cavundir_refusal(uint64_t answer)
 static inline uint32_t cavundir_returned(uint64_t answer)
 {
     return (uint32_t)answer;
+}
+
+/* A refusal's number in words, for a person; the returned value says which line, which signal and so on. */
+static inline const char *cavundir_text(unsigned number)
+{
+    switch (number) {
+    case CAVUNDIR_NOT_REFUSED:
+        return "The call was not refused.";
+    case CAVUNDIR_NET_MISFORMED:
+        return "NET: the line is misformed or missing, or is one too many.";
+    case CAVUNDIR_NET_LAYOUT:
+        return "NET: a value, a fixed zero or the order is wrong on the line.";
+    case CAVUNDIR_NET_SOURCE:
+        return "NET: a source on the line is above N, or is 0 with a translation above 3.";
+    case CAVUNDIR_NET_CLOSED_CHAIN:
+        return "NET: a closed chain of rank-order gates runs through the signal.";
+    case CAVUNDIR_MOD_MISFORMED:
+        return "MOD: the line is misformed or missing, or is one too many.";
+    case CAVUNDIR_MOD_LAYOUT:
+        return "MOD: a value, a fixed zero or the order is wrong on the line.";
+    case CAVUNDIR_MOD_PLACED:
+        return "MOD: the signal is not placed exactly once.";
+    case CAVUNDIR_MOD_OPERAND:
+        return "MOD: an operand on the line does not bring its source as old as the gate wants it.";
+    case CAVUNDIR_MOD_SEND:
+        return "MOD: the line sends an empty slot's location, or part 1 with a location not below its own slot.";
+    case CAVUNDIR_MOD_RECEIVE:
+        return "MOD: the line receives from a processor that sends none in that slot.";
+    case CAVUNDIR_STIM_MISFORMED:
+        return "STIM: the line is misformed or missing, or is one too many.";
+    case CAVUNDIR_STIM_LAYOUT:
+        return "STIM: a value, a fixed zero or the order is wrong on the line.";
+    case CAVUNDIR_STIM_NO_INPUT:
+        return "STIM: the line names a signal that is no input, at a time after 0.";
+    case CAVUNDIR_LENGTH:
+        return "A working buffer has a wrong length.";
+    case CAVUNDIR_SIGNAL:
+        return "The signal is 0 or above N, or it is a gate and was to be set.";
+    case CAVUNDIR_VALUE:
+        return "The value is above 3, or the mask above 15.";
+    case CAVUNDIR_CYCLES:
+        return "The cycles finished and those asked for are above 65535 together.";
+    case CAVUNDIR_DAMAGED:
+        return "The working buffers hold no session, or a number in them is out of its range.";
+    default:
+        return "No refusal has this number.";
+    }
 }
 
 /* Of a run that was not refused: the cycles it did. */

@@ -52,25 +52,25 @@ def refusal_in(printed):
     return (int(printed[:6]), int(printed[6:12])) if len(printed) == len("    10     1\n") else None
 
 
-def archive(crate):
-    """The archive of a crate; `rt staticlib` writes it if it is missing or older than a source."""
-    path = root / "target" / "staticlib" / f"lib{crate}.a"
+def archive():
+    """The archive that a panel links; `rt staticlib` writes it if it is missing or older than a source."""
+    path = root / "target" / "staticlib" / "libcavundir_panel.a"
     newest = max(source.stat().st_mtime for source in [root / "crates.txt", *(root / "crates").rglob("*")])
     if not path.exists() or path.stat().st_mtime < newest:
         rt = shutil.which("rt") or "/opt/rattle/bin/rt"
-        done = subprocess.run([rt, "staticlib", crate], cwd=root, capture_output=True, text=True)
+        done = subprocess.run([rt, "staticlib", "cavundir_panel"], cwd=root, capture_output=True, text=True)
         if done.returncode != 0 or not path.exists():
-            raise OSError(f"{done.stdout}{done.stderr}rt staticlib {crate}: exit status {done.returncode}")
+            raise OSError(f"{done.stdout}{done.stderr}rt staticlib cavundir_panel: exit status {done.returncode}")
         os.utime(path, (newest, newest))  # it may have left the file alone, if that was right as it stood
     return path
 
 
-def load(crate):
-    """The functions of a crate that C can call. OSError, with what was printed, if they cannot be had."""
+def load(path):
+    """The functions of an archive that C can call. OSError, with what was printed, if they cannot be had."""
     with tempfile.TemporaryDirectory() as folder:
-        shared = Path(folder) / f"{crate}.so"
-        done = subprocess.run(["gcc", "-shared", "-o", shared, "-Wl,--no-undefined", "-Wl,--whole-archive",
-                               archive(crate), "-Wl,--no-whole-archive"], capture_output=True, text=True)
+        shared = Path(folder) / "library.so"
+        done = subprocess.run(["gcc", "-shared", "-o", shared, "-Wl,--no-undefined", "-Wl,--whole-archive", path,
+                               "-Wl,--no-whole-archive"], capture_output=True, text=True)
         if done.returncode != 0:
             raise OSError(f"{done.stderr}gcc: exit status {done.returncode}")
         return ctypes.CDLL(str(shared))
@@ -84,35 +84,16 @@ def check_files(library):
 
     def check(net, mod, stim):
         answer = call(net, len(net), mod, len(mod), stim, len(stim))
-        return divmod(answer, 65536) if answer else None
+        return divmod(answer, 2 ** 56) if answer else None
 
     return check
-
-
-def session_archives():
-    """The archives with the panel's calls: that of `session_calls`, and that of `session_opening` if the first has no opening."""
-    archives = [archive("session_calls")]
-    symbols = subprocess.run(["nm", "-g", "--defined-only", archives[0]], capture_output=True, text=True).stdout
-    if "cavundir_open" not in symbols.split():
-        archives.append(archive("session_opening"))
-    return archives
-
-
-def link(archives):
-    """The functions of some archives that C can call. OSError, with what was printed, if they cannot be had."""
-    with tempfile.TemporaryDirectory() as folder:
-        shared = Path(folder) / "library.so"
-        done = subprocess.run(["gcc", "-shared", "-o", shared, "-Wl,--no-undefined", "-Wl,--whole-archive", *archives,
-                               "-Wl,--no-whole-archive"], capture_output=True, text=True)
-        if done.returncode != 0:
-            raise OSError(f"{done.stderr}gcc: exit status {done.returncode}")
-        return ctypes.CDLL(str(shared))
 
 
 def panel_calls(library):
     """The panel's calls by name. They take a pointer and a length for each buffer, then the numbers."""
     calls = {}
-    for name, buffers, numbers in (("open", 6, 0), ("set", 3, 2), ("watch", 3, 2), ("read", 3, 1), ("run", 3, 1)):
+    for name, buffers, numbers in (("check_files", 3, 0), ("open", 6, 0), ("set", 3, 2), ("watch", 3, 2), ("read", 3, 1),
+                                   ("run", 3, 1)):
         call = calls[name] = getattr(library, f"cavundir_{name}")
         call.argtypes = [ctypes.c_void_p, ctypes.c_size_t] * buffers + [ctypes.c_uint32] * numbers
         call.restype = ctypes.c_uint64

@@ -1,6 +1,6 @@
 -- The three checks in the order of the files: the first that refuses answers.
-use Prim.Native.Nat.{ℕ, _+_, _*_}
-use mathlib.Core.Path.{_≡_, sym, _∙_, ap}
+use Prim.Native.Nat.{ℕ}
+use mathlib.Core.Path.{_≡_, sym, _∙_}
 use mathlib.Core.List.{List}
 use Rattle.model.specs.Refusal.{Check, pass, fail}
 use Rattle.model.specs.Netlist.{network, netCheck}
@@ -17,10 +17,6 @@ use Rattle.file_mod_lines.specs.declared.ModAnswer.the-variants.{Accepted}
 use Rattle.file_mod_lines.proofs.Stages.{refused}
 use Rattle.file_stim.specs.Answer.{stimRefusal, Answers as StimAnswers}
 use Rattle.file_stim.specs.declared.StimAnswer.{StimAnswer}
-use Rattle.file_checks.specs.Answer.{fileRefusal}
-use Rattle.file_checks.specs.Code.{code, checked}
-use Rattle.file_checks.specs.declared.FileAnswer.{FileAnswer}
-use Rattle.file_checks.specs.declared.FileAnswer.the-variants.{Accepted as FilesAccepted, Refused}
 
 module _ (net modfile stim : List ℕ) where
   abbrev all-files : Check
@@ -44,13 +40,3 @@ module _ (net modfile stim : List ℕ) where
     unfolding fileCheck
     stim-last r mod-right answers =
         answers .refusal ∙ sym (first-second (netCheck 4096 net) _ net-right ∙ first-second (modCheck (network net) modfile) _ mod-right)
-
-  -- the answer as one number
-  module _ (r : FileAnswer) (is : fileRefusal r ≡ all-files) where
-    pub accepted-code : r ≡ FilesAccepted → 0 ≡ checked net modfile stim
-    unfolding checked
-    accepted-code e = ap code (ap fileRefusal (sym e) ∙ is)
-
-    pub refused-code : (number returned : ℕ) → r ≡ Refused number returned → 65536 * number + returned ≡ checked net modfile stim
-    unfolding checked
-    refused-code number returned e = ap code (ap fileRefusal (sym e) ∙ is)

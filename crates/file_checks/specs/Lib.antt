@@ -1,3 +1,2 @@
 pub mod Answer
-pub mod Code
 pub mod Refused

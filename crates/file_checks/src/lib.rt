@@ -1,7 +1,7 @@
-// The three file checks one after the other, for the opening, and as one number for tests and measurements in C.
+// The three file checks one after the other, and the line of a refusal.
 
 ghost use mathlib.Core.Path.{_≡_};
-ghost use Prim.Native.Nat.{_+_, _*_, _≤_};
+ghost use Prim.Native.Nat.{_≤_};
 ghost use lib.ListN.{length};
 ghost use lib.Seq.{sets};
 ghost use Rattle.model.specs.Acceptance.{panelLimit, fileCheck};
@@ -9,7 +9,6 @@ ghost use Rattle.file_net.specs.Answer.{netRefusal};
 ghost use Rattle.file_mod_lines.specs.Answer.{modRefusal};
 ghost use Rattle.file_stim.specs.Answer.{stimRefusal};
 ghost use Rattle.file_checks.specs.Answer.{fileRefusal};
-ghost use Rattle.file_checks.specs.Code.{checked};
 ghost use Rattle.file_checks.specs.Refused.{refusedText};
 use file_mod_lines::ModAnswer;
 use file_net::NetAnswer;
@@ -86,22 +85,4 @@ pub fn write_refusal(answer: FileAnswer, out: &mut [u8]) -> usize
         return 0;
     };
     writing::write_line(out, 0, &[number as u16, returned])
-}
-
-// A refusal's number and what it returns, as one number.
-fn coded(number: u8, returned: u16) -> u64
-    ensures { λ r. ⌜ r ≡ 65536 * number + returned ⌝ }
-{
-    65536 * (number as u64) + (returned as u64)
-}
-
-// The three files' check as one number.
-#[no_mangle]
-pub extern "C" fn cavundir_check_files(net: &[u8], modfile: &[u8], stim: &[u8]) -> u64
-    ensures { λ r. ⌜ r ≡ checked (now (net .entry)) (now (modfile .entry)) (now (stim .entry)) ⌝ }
-{
-    let FileAnswer::Refused(number, returned) = check_files(net, modfile, stim) else {
-        return 0;
-    };
-    coded(number, returned)
 }

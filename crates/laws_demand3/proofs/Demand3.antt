@@ -35,8 +35,8 @@ use Rattle.buffers_range.specs.Ranges.{ranged}
 use Rattle.buffers_range.proofs.Ranged.{head-ranged}
 use Rattle.buffers_load.specs.Loaded.{panelOf, programOf, openingBytes}
 use Rattle.buffers_load.proofs.Loaded.{loaded-network, loaded-head, loaded-holding, loaded-tables}
-use Rattle.session_answers.specs.Answers.{answerBits}
-use Rattle.session_opening.specs.Opened.{openingCheck, leftBy, openBits}
+use Rattle.session_answers.specs.Answers.{answerBits, checkBits}
+use Rattle.session_opening.specs.Opened.{openingCheck, leftBy}
 use Rattle.session_opening.proofs.Opened.{opened-ranged}
 use Rattle.laws_values.proofs.Valued.{processors-few, slots-few, opening-holds}
 use Rattle.session_state.specs.Header.{headIn, withHead}
@@ -273,8 +273,8 @@ module _ (files : Files) (accepted : Accepted panelLimit files) where
     accepts = rw right accepted
 
     pub opens-not-refused : bits ≡ answerBits done
-    unfolding openBits
-    opens-not-refused = opens .answer ∙ ap openBits accepts
+    unfolding checkBits
+    opens-not-refused = opens .answer ∙ ap checkBits accepts
 
     left-opened : left ≡ opened
     unfolding leftBy

@@ -1,6 +1,6 @@
--- What the exported calls' own contracts promise is what demand 3 takes of a call. `Asked` and `Learnt` are what each function's `requires`
--- asks and what its `ensures` tells a caller, handed on by its crate. They ask nothing; and for any references lent, whatever is told of
--- the result and of the buffers at the return is `Meets`, or `Opens`.
+-- What the contracts of the functions that C calls promise is what demand 3 takes of a call. `Asked` and `Learnt` are what each
+-- function's `requires` asks and what its `ensures` tells a caller, handed on by its crate. They ask nothing; and for any references
+-- lent, whatever is told of the result and of the buffers at the return is `Meets`, or `Opens`.
 use Prim.Native.Nat.{ℕ}
 use mathlib.Core.Path.{_≡_, refl, sym}
 use mathlib.Core.Bool.{false}
@@ -13,16 +13,16 @@ use Rattle.session_answers.specs.Answers.{answerBits}
 use Rattle.session_answers.specs.Apart.{apart}
 use Rattle.buffers_lengths.specs.Lengths.{fixed}
 use Rattle.session_calls.specs.Reply.{Buffers, buffersOf, lengthsOf, reply}
-use Rattle.session_calls.proofs.cavundir_set.Kinds.{ps as set-ps, r as set-r}
-use Rattle.session_calls.proofs.cavundir_set.Reads.{Asked as SetAsks, Learnt as SetTells}
-use Rattle.session_calls.proofs.cavundir_watch.Kinds.{ps as watch-ps, r as watch-r}
-use Rattle.session_calls.proofs.cavundir_watch.Reads.{Asked as WatchAsks, Learnt as WatchTells}
-use Rattle.session_calls.proofs.cavundir_read.Kinds.{ps as read-ps, r as read-r}
-use Rattle.session_calls.proofs.cavundir_read.Reads.{Asked as ReadAsks, Learnt as ReadTells}
-use Rattle.session_calls.proofs.cavundir_run.Kinds.{ps as run-ps, r as run-r}
-use Rattle.session_calls.proofs.cavundir_run.Reads.{Asked as RunAsks, Learnt as RunTells}
-use Rattle.session_opening.proofs.cavundir_open.Kinds.{ps as open-ps, r as open-r}
-use Rattle.session_opening.proofs.cavundir_open.Reads.{Asked as OpenAsks, Learnt as OpenTells}
+use Rattle.cavundir_panel.proofs.cavundir_set.Kinds.{ps as set-ps, r as set-r}
+use Rattle.cavundir_panel.proofs.cavundir_set.Reads.{Asked as SetAsks, Learnt as SetTells}
+use Rattle.cavundir_panel.proofs.cavundir_watch.Kinds.{ps as watch-ps, r as watch-r}
+use Rattle.cavundir_panel.proofs.cavundir_watch.Reads.{Asked as WatchAsks, Learnt as WatchTells}
+use Rattle.cavundir_panel.proofs.cavundir_read.Kinds.{ps as read-ps, r as read-r}
+use Rattle.cavundir_panel.proofs.cavundir_read.Reads.{Asked as ReadAsks, Learnt as ReadTells}
+use Rattle.cavundir_panel.proofs.cavundir_run.Kinds.{ps as run-ps, r as run-r}
+use Rattle.cavundir_panel.proofs.cavundir_run.Reads.{Asked as RunAsks, Learnt as RunTells}
+use Rattle.cavundir_panel.proofs.cavundir_open.Kinds.{ps as open-ps, r as open-r}
+use Rattle.cavundir_panel.proofs.cavundir_open.Reads.{Asked as OpenAsks, Learnt as OpenTells}
 use Rattle.laws_demand3.specs.Lending.{Opens, Meets, own, other, kindOf, Has32, Post}
 
 -- A call that met its contract stands in a list: lent the session's buffers, or others of which a length is wrong.

@@ -10,10 +10,10 @@ use Rattle.model.specs.Session.{Call, set, watch, read, run, Lent, sameLengths,
 use Rattle.model.specs.Demands.{Working, Trace, end, next}
 use Rattle.buffers_memory.specs.Memory.{memoryOf}
 use Rattle.buffers_load.specs.Loaded.{panelOf, programOf, openingBytes}
-use Rattle.session_opening.specs.Opened.{openingCheckLent, leftBy, openBits}
+use Rattle.session_opening.specs.Opened.{openingCheckLent, leftBy}
 use Rattle.session_state.specs.Header.{headIn}
 use Rattle.buffers_lengths.specs.Lengths.{fixed}
-use Rattle.session_answers.specs.Answers.{answerBits}
+use Rattle.session_answers.specs.Answers.{answerBits, checkBits}
 use Rattle.session_answers.specs.Apart.{Kind, setting, reading, running, apart}
 use Rattle.session_calls.specs.Reply.{Buffers, lengthsOf, reply}
 
@@ -27,7 +27,7 @@ openedBy files b = openingCheckLent (files .NET) (files .MOD) (files .STIM) (b .
 
 -- The opening met its contract on any earlier buffers: bits is its answer, left what it leaves.
 pub record Opens (files : Files) (before left : Buffers) (bits : ℕ) : Type 0 where
-  pub answer : bits ≡ openBits (openedBy files before)
+  pub answer : bits ≡ checkBits (openedBy files before)
   pub panel : left .panel ≡ leftBy (openedBy files before) (panelOf (files .NET) (files .MOD) (files .STIM)) (before .panel)
   pub program : left .program ≡ leftBy (openedBy files before) (programOf (files .MOD)) (before .program)
   pub memory : left .memory ≡ leftBy (openedBy files before) (openingBytes (files .NET) (files .MOD) (files .STIM)) (before .memory)

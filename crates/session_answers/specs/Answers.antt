@@ -1,6 +1,7 @@
 -- The answers of the calls: number and returned value of each case (01, Refusals), and the 64 bits that C gets (docs/PANEL.md).
 use Prim.Native.Nat.{ℕ, _+_, _*_, _^_}
 use Rattle.logic.specs.Test.{one}
+use Rattle.model.specs.Refusal.{Check, pass, fail}
 use Rattle.model.specs.Session.{Answer, refused, done, value, ran}
 use Rattle.session_answers.specs.declared.CallAnswer.{CallAnswer}
 use Rattle.session_answers.specs.declared.CallAnswer.the-variants.{WrongLength, OutOfRange, NoSuchSignal, NoSuchValue, TooManyCycles, Done, Value, Ran}
@@ -23,3 +24,8 @@ answerBits (refused number returned) = number * 2 ^ 56 + returned
 answerBits done = 0
 answerBits (value v) = v
 answerBits (ran count stopped) = count + 65536 * one stopped
+
+-- what the opening and the check of the files answer: done where the check passes, else its refusal
+unfoldable pub checkBits : Check → ℕ
+checkBits pass = answerBits done
+checkBits (fail number returned) = answerBits (refused number returned)

@@ -1,4 +1,4 @@
-// The session's calls, for the panel in C (01, Session): "calls these four by plain numbers and byte buffers".
+// The session's four calls on byte buffers (01, Session). `cavundir_panel` exports them for C.
 
 ghost use mathlib.Core.Path.{_≡_};
 ghost use mathlib.Core.List.{List};
@@ -98,14 +98,7 @@ fn run_in(panel: &mut [u8], program: &[u8], memory: &mut [u8], cycles: u32) -> u
 }
 
 // Set an input for the next cycle. Refused by 40, 44, 41, 42, in this order.
-#[no_mangle]
-pub extern "C" fn cavundir_set(
-    panel: &mut [u8],
-    program: &[u8],
-    memory: &[u8],
-    signal: u32,
-    value: u32,
-) -> u64
+pub fn set(panel: &mut [u8], program: &[u8], memory: &[u8], signal: u32, value: u32) -> u64
     ensures answer { λ r. ⌜ r ≡ answerBits (reply (buffersOf (now (panel .entry)) (now (program .entry)) (now (memory .entry))) (setting signal value) .answer) ⌝ }
     ensures left { λ _. ⌜ reply (buffersOf (now (panel .entry)) (now (program .entry)) (now (memory .entry))) (setting signal value) .buffers ≡ buffersOf (now (panel .exit)) (now (program .entry)) (now (memory .entry)) ⌝ }
 {
@@ -117,14 +110,7 @@ pub extern "C" fn cavundir_set(
 }
 
 // Set the one watch. Refused by 40, 44, 41, 42.
-#[no_mangle]
-pub extern "C" fn cavundir_watch(
-    panel: &mut [u8],
-    program: &[u8],
-    memory: &[u8],
-    signal: u32,
-    mask: u32,
-) -> u64
+pub fn watch(panel: &mut [u8], program: &[u8], memory: &[u8], signal: u32, mask: u32) -> u64
     ensures answer { λ r. ⌜ r ≡ answerBits (reply (buffersOf (now (panel .entry)) (now (program .entry)) (now (memory .entry))) (watching signal mask) .answer) ⌝ }
     ensures left { λ _. ⌜ reply (buffersOf (now (panel .entry)) (now (program .entry)) (now (memory .entry))) (watching signal mask) .buffers ≡ buffersOf (now (panel .exit)) (now (program .entry)) (now (memory .entry)) ⌝ }
 {
@@ -136,8 +122,7 @@ pub extern "C" fn cavundir_watch(
 }
 
 // Read a signal. Refused by 40, 44, 41. Every buffer is lent to be read alone.
-#[no_mangle]
-pub extern "C" fn cavundir_read(panel: &[u8], program: &[u8], memory: &[u8], signal: u32) -> u64
+pub fn read(panel: &[u8], program: &[u8], memory: &[u8], signal: u32) -> u64
     ensures answer { λ r. ⌜ r ≡ answerBits (reply (buffersOf (now (panel .entry)) (now (program .entry)) (now (memory .entry))) (reading signal) .answer) ⌝ }
     ensures left { λ _. ⌜ reply (buffersOf (now (panel .entry)) (now (program .entry)) (now (memory .entry))) (reading signal) .buffers ≡ buffersOf (now (panel .entry)) (now (program .entry)) (now (memory .entry)) ⌝ }
 {
@@ -149,13 +134,7 @@ pub extern "C" fn cavundir_read(panel: &[u8], program: &[u8], memory: &[u8], sig
 }
 
 // Run k cycles. Refused by 40, 44, 43.
-#[no_mangle]
-pub extern "C" fn cavundir_run(
-    panel: &mut [u8],
-    program: &[u8],
-    memory: &mut [u8],
-    cycles: u32,
-) -> u64
+pub fn run(panel: &mut [u8], program: &[u8], memory: &mut [u8], cycles: u32) -> u64
     ensures answer { λ r. ⌜ r ≡ answerBits (reply (buffersOf (now (panel .entry)) (now (program .entry)) (now (memory .entry))) (running cycles) .answer) ⌝ }
     ensures left { λ _. ⌜ reply (buffersOf (now (panel .entry)) (now (program .entry)) (now (memory .entry))) (running cycles) .buffers ≡ buffersOf (now (panel .exit)) (now (program .entry)) (now (memory .exit)) ⌝ }
 {

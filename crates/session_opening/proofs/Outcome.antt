@@ -9,11 +9,11 @@ use Rattle.model.specs.Files.{Files}
 use Rattle.model.specs.Acceptance.{panelLimit, fileCheck}
 use Rattle.model.specs.Session.{Lengths, sameLengths, refused}
 use Rattle.buffers_lengths.specs.Lengths.{fixed}
-use Rattle.session_answers.specs.Answers.{answerBits}
+use Rattle.session_answers.specs.Answers.{answerBits, checkBits}
 use Rattle.file_checks.specs.Answer.{fileRefusal}
 use Rattle.file_checks.specs.declared.FileAnswer.{FileAnswer}
 use Rattle.file_checks.specs.declared.FileAnswer.the-variants.{Accepted, Refused}
-use Rattle.session_opening.specs.Opened.{openingCheck, cleared, leftBy, openBits}
+use Rattle.session_opening.specs.Opened.{openingCheck, cleared, leftBy}
 
 module _ (files : Files) (lent : Lengths) where
   pub wrong-length : sameLengths lent fixed ≡ false → openingCheck files lent ≡ fail 40 0
@@ -33,8 +33,8 @@ module _ (files : Files) (r : FileAnswer) (is : fileRefusal r ≡ fileCheck pane
   files-refused e = sym is ∙ ap fileRefusal e
 
 module _ {check : Check} {number returned : ℕ} (e : check ≡ fail number returned) where
-  pub refused-bits : answerBits (refused number returned) ≡ openBits check
-  unfolding openBits
+  pub refused-bits : answerBits (refused number returned) ≡ checkBits check
+  unfolding checkBits
   refused-bits = rw e
 
   pub refused-left : (bytes lent : List ℕ) → cleared (length lent) ≡ leftBy check bytes lent
@@ -42,8 +42,8 @@ module _ {check : Check} {number returned : ℕ} (e : check ≡ fail number retu
   refused-left bytes lent = rw e
 
 module _ {check : Check} (e : check ≡ pass) where
-  pub accepted-bits : 0 ≡ openBits check
-  unfolding openBits answerBits
+  pub accepted-bits : 0 ≡ checkBits check
+  unfolding checkBits answerBits
   accepted-bits = rw e
 
   pub accepted-left : (left bytes lent : List ℕ) → left ≡ bytes → left ≡ leftBy check bytes lent

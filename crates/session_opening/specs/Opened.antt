@@ -6,9 +6,8 @@ use Rattle.logic.specs.Listed.{listed}
 use Rattle.model.specs.Refusal.{Check, pass, fail, first, unless}
 use Rattle.model.specs.Files.{Files}
 use Rattle.model.specs.Acceptance.{panelLimit, fileCheck}
-use Rattle.model.specs.Session.{Lengths, sameLengths, refused, done}
+use Rattle.model.specs.Session.{Lengths, sameLengths}
 use Rattle.buffers_lengths.specs.Lengths.{fixed, lengthsLent}
-use Rattle.session_answers.specs.Answers.{answerBits}
 
 -- "At the opening 40 comes before all file refusals." The lengths are those of panel, program and memory as lent.
 unfoldable pub openingCheck : Files → Lengths → Check
@@ -27,8 +26,3 @@ cleared size = listed size (λ a. 0)
 unfoldable pub leftBy : Check → List ℕ → List ℕ → List ℕ
 leftBy pass bytes lent = bytes
 leftBy (fail number returned) bytes lent = cleared (length lent)
-
--- the 64 bits that C gets: those of a call that is done, or refused
-unfoldable pub openBits : Check → ℕ
-openBits pass = answerBits done
-openBits (fail number returned) = answerBits (refused number returned)

@@ -1,11 +1,12 @@
-// The opening of a session, as C calls it (01, Session).
+// The opening of a session, and the check of its files alone (01, Session). `cavundir_panel` exports them for C.
 
 ghost use mathlib.Core.Path.{_≡_};
 ghost use lib.ListN.{length};
+ghost use Rattle.model.specs.Acceptance.{panelLimit, fileCheck};
 ghost use Rattle.model.specs.Session.{refused};
 ghost use Rattle.buffers_load.specs.Loaded.{panelOf, programOf, openingBytes};
-ghost use Rattle.session_answers.specs.Answers.{answerBits};
-ghost use Rattle.session_opening.specs.Opened.{openingCheckLent, cleared, leftBy, openBits};
+ghost use Rattle.session_answers.specs.Answers.{answerBits, checkBits};
+ghost use Rattle.session_opening.specs.Opened.{openingCheckLent, cleared, leftBy};
 use file_checks::FileAnswer;
 
 // The working buffers all zero.
@@ -31,8 +32,7 @@ fn refuse(number: u8, returned: u16, panel: &mut [u8], program: &mut [u8], memor
 }
 
 // Opens a session on three files: 40 comes before all file refusals, and accepted files write every byte of the buffers.
-#[no_mangle]
-pub extern "C" fn cavundir_open(
+pub fn open(
     net: &[u8],
     modfile: &[u8],
     stim: &[u8],
@@ -40,10 +40,10 @@ pub extern "C" fn cavundir_open(
     program: &mut [u8],
     memory: &mut [u8],
 ) -> u64
-    ensures { λ r. ⌜ r ≡ openBits (openingCheckLent (now (net .entry)) (now (modfile .entry)) (now (stim .entry)) (now (panel .entry)) (now (program .entry)) (now (memory .entry))) ⌝ }
-    ensures { λ _. ⌜ now (panel .exit) ≡ leftBy (openingCheckLent (now (net .entry)) (now (modfile .entry)) (now (stim .entry)) (now (panel .entry)) (now (program .entry)) (now (memory .entry))) (panelOf (now (net .entry)) (now (modfile .entry)) (now (stim .entry))) (now (panel .entry)) ⌝ }
-    ensures { λ _. ⌜ now (program .exit) ≡ leftBy (openingCheckLent (now (net .entry)) (now (modfile .entry)) (now (stim .entry)) (now (panel .entry)) (now (program .entry)) (now (memory .entry))) (programOf (now (modfile .entry))) (now (program .entry)) ⌝ }
-    ensures { λ _. ⌜ now (memory .exit) ≡ leftBy (openingCheckLent (now (net .entry)) (now (modfile .entry)) (now (stim .entry)) (now (panel .entry)) (now (program .entry)) (now (memory .entry))) (openingBytes (now (net .entry)) (now (modfile .entry)) (now (stim .entry))) (now (memory .entry)) ⌝ }
+    ensures answer { λ r. ⌜ r ≡ checkBits (openingCheckLent (now (net .entry)) (now (modfile .entry)) (now (stim .entry)) (now (panel .entry)) (now (program .entry)) (now (memory .entry))) ⌝ }
+    ensures panel { λ _. ⌜ now (panel .exit) ≡ leftBy (openingCheckLent (now (net .entry)) (now (modfile .entry)) (now (stim .entry)) (now (panel .entry)) (now (program .entry)) (now (memory .entry))) (panelOf (now (net .entry)) (now (modfile .entry)) (now (stim .entry))) (now (panel .entry)) ⌝ }
+    ensures program { λ _. ⌜ now (program .exit) ≡ leftBy (openingCheckLent (now (net .entry)) (now (modfile .entry)) (now (stim .entry)) (now (panel .entry)) (now (program .entry)) (now (memory .entry))) (programOf (now (modfile .entry))) (now (program .entry)) ⌝ }
+    ensures memory { λ _. ⌜ now (memory .exit) ≡ leftBy (openingCheckLent (now (net .entry)) (now (modfile .entry)) (now (stim .entry)) (now (panel .entry)) (now (program .entry)) (now (memory .entry))) (openingBytes (now (net .entry)) (now (modfile .entry)) (now (stim .entry))) (now (memory .entry)) ⌝ }
 {
     if !buffers_lengths::lengths_right(panel, program, memory) {
         return refuse(40, 0, panel, program, memory);
@@ -53,4 +53,14 @@ pub extern "C" fn cavundir_open(
         return 0;
     };
     refuse(number, returned, panel, program, memory)
+}
+
+// The check of the three files alone, in the opening's bits: 0 where they are accepted, else the refusal.
+pub fn check(net: &[u8], modfile: &[u8], stim: &[u8]) -> u64
+    ensures answer { λ r. ⌜ r ≡ checkBits (fileCheck panelLimit (record { NET = now (net .entry); MOD = now (modfile .entry); STIM = now (stim .entry) })) ⌝ }
+{
+    let FileAnswer::Refused(number, returned) = file_checks::check_files(net, modfile, stim) else {
+        return 0;
+    };
+    session_answers::refusal_bits(number, returned as u32)
 }

@@ -1,9 +1,9 @@
--- `cavundir_set`: the buffers are judged, and each case is that of the reply.
+-- `set`: the buffers are judged, and each case is that of the reply.
 use Rattle.session_calls.proofs.Judged.{right-sizes, right-signals}
 use Rattle.session_calls.proofs.Replies.{replies-40, replies-44, replies, set-state}
 use borrow.Author.Needs.{needs}
-use Rattle.session_calls.proofs.cavundir_set.Statement.{statement}
-use Rattle.session_calls.proofs.cavundir_set.Tie as tie
+use Rattle.session_calls.proofs.set.Statement.{statement}
+use Rattle.session_calls.proofs.set.Tie as tie
 
 readiness-requires : tie.Need-readiness-requires
 readiness-requires c κs = search needs
@@ -47,8 +47,8 @@ same-length-3 c = search needs
 returns-3 : tie.Need-returns-3
 returns-3 c = replies _ _ _ (c .before .before .before .before .before .before .readiness .ensures) (c .before .before .before .before .enum-told3 .given .1) _ _ (c .before .before .set-in .ensures _ _) (set-state _ _ _ _ _ _)
 
-pub cavundir-set-spec : {M : Type 1} → statement M
-cavundir-set-spec =
+pub set-spec : {M : Type 1} → statement M
+set-spec =
     tie.close
     (tie.spec
     readiness-requires

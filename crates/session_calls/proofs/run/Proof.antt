@@ -1,9 +1,9 @@
--- `cavundir_run`: the buffers are judged, and each case is that of the reply.
+-- `run`: the buffers are judged, and each case is that of the reply.
 use Rattle.session_calls.proofs.Judged.{right-tables, right-watching, right-memory}
 use Rattle.session_calls.proofs.Replies.{replies-40, replies-44, replies-run}
 use borrow.Author.Needs.{needs}
-use Rattle.session_calls.proofs.cavundir_run.Statement.{statement}
-use Rattle.session_calls.proofs.cavundir_run.Tie as tie
+use Rattle.session_calls.proofs.run.Statement.{statement}
+use Rattle.session_calls.proofs.run.Tie as tie
 
 readiness-requires : tie.Need-readiness-requires
 readiness-requires c κs = search needs
@@ -56,8 +56,8 @@ same-length-6 c = search needs
 returns-3 : tie.Need-returns-3
 returns-3 c = replies-run _ _ _ (c .before .before .before .before .before .before .before .before .before .readiness .ensures) (c .before .before .before .before .before .before .before .enum-told3 .given .1) _ _ _ (c .before .before .before .before .run-in .ensures .0) (c .before .before .before .before .run-in .ensures .1)
 
-pub cavundir-run-spec : {M : Type 1} → statement M
-cavundir-run-spec =
+pub run-spec : {M : Type 1} → statement M
+run-spec =
     tie.close
     (tie.spec
     readiness-requires

@@ -6,8 +6,8 @@ use Rattle.buffers_load.specs.Loaded.{panelOf, programOf, openingBytes}
 use Rattle.buffers_lengths.proofs.Sizes.{same-sizes}
 use Rattle.session_opening.proofs.Outcome.{wrong-length, right-length, files-accepted, files-refused, refused-bits, refused-left, accepted-bits, accepted-left}
 use borrow.Author.Needs.{needs}
-use Rattle.session_opening.proofs.cavundir_open.Statement.{statement}
-use Rattle.session_opening.proofs.cavundir_open.Tie as tie
+use Rattle.session_opening.proofs.open.Statement.{statement}
+use Rattle.session_opening.proofs.open.Tie as tie
 
 lengths-right-requires : tie.Need-lengths-right-requires
 lengths-right-requires c κs = search needs
@@ -91,8 +91,8 @@ returns-3 c =
     let r = c .before .before .before .before .before .before .refuse2 .ensures in
     (r .0 ∙ refused-bits e, (r .1 .0 ∙ refused-left e _ _, (r .1 .1 .0 ∙ refused-left e _ _, r .1 .1 .1 ∙ refused-left e _ _)))
 
-pub cavundir-open-spec : {M : Type 1} → statement M
-cavundir-open-spec =
+pub open-spec : {M : Type 1} → statement M
+open-spec =
     tie.close
     (tie.spec
     lengths-right-requires

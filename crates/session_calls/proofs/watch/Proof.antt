@@ -1,9 +1,9 @@
--- `cavundir_watch`: the buffers are judged, and each case is that of the reply.
+-- `watch`: the buffers are judged, and each case is that of the reply.
 use Rattle.session_calls.proofs.Judged.{right-sizes, right-signals}
 use Rattle.session_calls.proofs.Replies.{replies-40, replies-44, replies, watch-state}
 use borrow.Author.Needs.{needs}
-use Rattle.session_calls.proofs.cavundir_watch.Statement.{statement}
-use Rattle.session_calls.proofs.cavundir_watch.Tie as tie
+use Rattle.session_calls.proofs.watch.Statement.{statement}
+use Rattle.session_calls.proofs.watch.Tie as tie
 
 readiness-requires : tie.Need-readiness-requires
 readiness-requires c κs = search needs
@@ -47,8 +47,8 @@ same-length-3 c = search needs
 returns-3 : tie.Need-returns-3
 returns-3 c = replies _ _ _ (c .before .before .before .before .before .before .readiness .ensures) (c .before .before .before .before .enum-told3 .given .1) _ _ (c .before .before .watch-in .ensures _ _) (watch-state _ _ _ _ _ _)
 
-pub cavundir-watch-spec : {M : Type 1} → statement M
-cavundir-watch-spec =
+pub watch-spec : {M : Type 1} → statement M
+watch-spec =
     tie.close
     (tie.spec
     readiness-requires

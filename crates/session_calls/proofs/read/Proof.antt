@@ -1,9 +1,9 @@
--- `cavundir_read`: the buffers are judged, and each case is that of the reply.
+-- `read`: the buffers are judged, and each case is that of the reply.
 use Rattle.session_calls.proofs.Judged.{right-sizes, right-signals, right-processor, right-memory}
 use Rattle.session_calls.proofs.Replies.{replies-40, replies-44, replies, read-state}
 use borrow.Author.Needs.{needs}
-use Rattle.session_calls.proofs.cavundir_read.Statement.{statement}
-use Rattle.session_calls.proofs.cavundir_read.Tie as tie
+use Rattle.session_calls.proofs.read.Statement.{statement}
+use Rattle.session_calls.proofs.read.Tie as tie
 
 readiness-requires : tie.Need-readiness-requires
 readiness-requires c κs = search needs
@@ -38,8 +38,8 @@ returns-2 c = replies-44 _ _ _ (c .before .before .before .readiness .ensures) (
 returns-3 : tie.Need-returns-3
 returns-3 c = replies _ _ _ (c .before .before .before .readiness .ensures) (c .before .enum-told3 .given .1) _ _ (c .read-in .ensures _) (read-state _ _ _ _ _)
 
-pub cavundir-read-spec : {M : Type 1} → statement M
-cavundir-read-spec =
+pub read-spec : {M : Type 1} → statement M
+read-spec =
     tie.close
     (tie.spec
     readiness-requires

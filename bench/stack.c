@@ -1,0 +1,121 @@
+/* stack FOLDER..: the stack that each call needs, the most over the files NET, MOD and STIM of all folders. A call runs on a stack
+ * of its own, filled with one byte before: the depth is from its caller's frame to the deepest byte that changed. */
+#include <stdio.h>
+#include <stdlib.h>
+#include <string.h>
+#include <ucontext.h>
+
+#include "cavundir.h"
+
+enum { STACK = 1 << 20, FILLED = 0xA5, NET = 0, MOD, STIM, FILES };
+
+static const char *const names[FILES] = {"NET", "MOD", "STIM"};
+static uint8_t files[FILES][1 << 21], panel[CAVUNDIR_PANEL_BYTES], program[CAVUNDIR_PROGRAM_BYTES], memory[CAVUNDIR_MEMORY_BYTES];
+static size_t lengths[FILES];
+static uint8_t stack[STACK];
+
+/* what the next call is given, and what it answered */
+static size_t program_bytes = sizeof program;
+static uint32_t signal_given, number_given;
+static uint64_t answer;
+
+#define GIVEN files[NET], lengths[NET], files[MOD], lengths[MOD], files[STIM], lengths[STIM]
+#define SESSION panel, sizeof panel, program, program_bytes, memory, sizeof memory
+
+static void checking(void) { answer = cavundir_check_files(GIVEN); }
+static void opening(void) { answer = cavundir_open(GIVEN, SESSION); }
+static void setting(void) { answer = cavundir_set(SESSION, signal_given, number_given); }
+static void watching(void) { answer = cavundir_watch(SESSION, signal_given, number_given); }
+static void reading(void) { answer = cavundir_read(SESSION, signal_given); }
+static void running(void) { answer = cavundir_run(SESSION, number_given); }
+
+static struct call {
+    const char *name;
+    void (*make)(void);
+    size_t most;
+} calls[] = {{"check_files", checking, 0}, {"open", opening, 0},  {"set", setting, 0},
+             {"watch", watching, 0},       {"read", reading, 0}, {"run", running, 0}};
+enum { CHECK_FILES, OPEN, SET, WATCH, READ, RUN, CALLS };
+
+static void (*make)(void);
+static uint8_t *from;
+
+static void on_the_stack(void)
+{
+    from = __builtin_frame_address(0);
+    make();
+}
+
+static void measure(int which)
+{
+    static ucontext_t here, there;
+
+    memset(stack, FILLED, STACK);
+    getcontext(&there);
+    there.uc_stack.ss_sp = stack;
+    there.uc_stack.ss_size = STACK;
+    there.uc_link = &here;
+    make = calls[which].make;
+    makecontext(&there, on_the_stack, 0);
+    swapcontext(&here, &there);
+
+    size_t deepest = 0;
+    while (deepest < STACK && stack[deepest] == FILLED)
+        deepest++;
+    if (deepest < 4096) {
+        fprintf(stderr, "bench: FAILED: %s needs more than %d bytes of stack\n", calls[which].name, STACK);
+        exit(1);
+    }
+    size_t needed = from - (stack + deepest);
+    if (needed > calls[which].most)
+        calls[which].most = needed;
+}
+
+/* Every call with these numbers; `lent` is the program's length. */
+static void measure_session(uint32_t signal, uint32_t number, size_t lent)
+{
+    signal_given = signal;
+    number_given = number;
+    program_bytes = lent;
+    for (int which = SET; which < CALLS; which++)
+        measure(which);
+    program_bytes = sizeof program;
+}
+
+static void read_files(const char *folder)
+{
+    for (int k = 0; k < FILES; k++) {
+        char path[4096];
+        snprintf(path, sizeof path, "%s/%s", folder, names[k]);
+        FILE *file = fopen(path, "rb");
+        lengths[k] = file ? fread(files[k], 1, sizeof files[k], file) : 0;
+        if (file)
+            fclose(file);
+    }
+}
+
+int main(int count, char **folders)
+{
+    int opened = 0;
+
+    for (int k = 1; k < count; k++) {
+        read_files(folders[k]);
+        measure(CHECK_FILES);
+        measure(OPEN);
+        opened += answer == 0;
+        measure_session(1, 3, sizeof program);     /* not refused, where signal 1 is an input */
+        measure_session(0, 65536, sizeof program); /* 41 and 43 */
+        measure_session(1, 3, 0);                  /* 40 */
+        program_bytes = 0;
+        measure(OPEN);
+        program_bytes = sizeof program;
+    }
+    if (opened == 0) {
+        fprintf(stderr, "bench: FAILED: no files were accepted\n");
+        return 1;
+    }
+    printf("%-22s %8s\n", "stack of a call", "bytes");
+    for (int which = 0; which < CALLS; which++)
+        printf("%-22s %8zu\n", calls[which].name, calls[which].most);
+    return 0;
+}

@@ -1,0 +1,88 @@
+// Every function that C calls (include/cavundir.h). Each hands its arguments to a library below, and its contract is that one's.
+
+ghost use mathlib.Core.Path.{_≡_};
+ghost use Rattle.model.specs.Acceptance.{panelLimit, fileCheck};
+ghost use Rattle.model.specs.Session.{set as setting, watch as watching, read as reading, run as running};
+ghost use Rattle.buffers_load.specs.Loaded.{panelOf, programOf, openingBytes};
+ghost use Rattle.session_answers.specs.Answers.{answerBits, checkBits};
+ghost use Rattle.session_opening.specs.Opened.{openingCheckLent, leftBy};
+ghost use Rattle.session_calls.specs.Reply.{buffersOf, reply};
+
+// Checks three files, and writes nothing.
+#[no_mangle]
+pub extern "C" fn cavundir_check_files(net: &[u8], modfile: &[u8], stim: &[u8]) -> u64
+    ensures answer { λ r. ⌜ r ≡ checkBits (fileCheck panelLimit (record { NET = now (net .entry); MOD = now (modfile .entry); STIM = now (stim .entry) })) ⌝ }
+{
+    session_opening::check(net, modfile, stim)
+}
+
+// Opens a session on three files.
+#[no_mangle]
+pub extern "C" fn cavundir_open(
+    net: &[u8],
+    modfile: &[u8],
+    stim: &[u8],
+    panel: &mut [u8],
+    program: &mut [u8],
+    memory: &mut [u8],
+) -> u64
+    ensures answer { λ r. ⌜ r ≡ checkBits (openingCheckLent (now (net .entry)) (now (modfile .entry)) (now (stim .entry)) (now (panel .entry)) (now (program .entry)) (now (memory .entry))) ⌝ }
+    ensures panel { λ _. ⌜ now (panel .exit) ≡ leftBy (openingCheckLent (now (net .entry)) (now (modfile .entry)) (now (stim .entry)) (now (panel .entry)) (now (program .entry)) (now (memory .entry))) (panelOf (now (net .entry)) (now (modfile .entry)) (now (stim .entry))) (now (panel .entry)) ⌝ }
+    ensures program { λ _. ⌜ now (program .exit) ≡ leftBy (openingCheckLent (now (net .entry)) (now (modfile .entry)) (now (stim .entry)) (now (panel .entry)) (now (program .entry)) (now (memory .entry))) (programOf (now (modfile .entry))) (now (program .entry)) ⌝ }
+    ensures memory { λ _. ⌜ now (memory .exit) ≡ leftBy (openingCheckLent (now (net .entry)) (now (modfile .entry)) (now (stim .entry)) (now (panel .entry)) (now (program .entry)) (now (memory .entry))) (openingBytes (now (net .entry)) (now (modfile .entry)) (now (stim .entry))) (now (memory .entry)) ⌝ }
+{
+    session_opening::open(net, modfile, stim, panel, program, memory)
+}
+
+// Sets an input for the next cycle.
+#[no_mangle]
+pub extern "C" fn cavundir_set(
+    panel: &mut [u8],
+    program: &[u8],
+    memory: &[u8],
+    signal: u32,
+    value: u32,
+) -> u64
+    ensures answer { λ r. ⌜ r ≡ answerBits (reply (buffersOf (now (panel .entry)) (now (program .entry)) (now (memory .entry))) (setting signal value) .answer) ⌝ }
+    ensures left { λ _. ⌜ reply (buffersOf (now (panel .entry)) (now (program .entry)) (now (memory .entry))) (setting signal value) .buffers ≡ buffersOf (now (panel .exit)) (now (program .entry)) (now (memory .entry)) ⌝ }
+{
+    session_calls::set(panel, program, memory, signal, value)
+}
+
+// Sets the one watch.
+#[no_mangle]
+pub extern "C" fn cavundir_watch(
+    panel: &mut [u8],
+    program: &[u8],
+    memory: &[u8],
+    signal: u32,
+    mask: u32,
+) -> u64
+    ensures answer { λ r. ⌜ r ≡ answerBits (reply (buffersOf (now (panel .entry)) (now (program .entry)) (now (memory .entry))) (watching signal mask) .answer) ⌝ }
+    ensures left { λ _. ⌜ reply (buffersOf (now (panel .entry)) (now (program .entry)) (now (memory .entry))) (watching signal mask) .buffers ≡ buffersOf (now (panel .exit)) (now (program .entry)) (now (memory .entry)) ⌝ }
+{
+    session_calls::watch(panel, program, memory, signal, mask)
+}
+
+// Reads a signal.
+#[no_mangle]
+pub extern "C" fn cavundir_read(panel: &[u8], program: &[u8], memory: &[u8], signal: u32) -> u64
+    ensures answer { λ r. ⌜ r ≡ answerBits (reply (buffersOf (now (panel .entry)) (now (program .entry)) (now (memory .entry))) (reading signal) .answer) ⌝ }
+    ensures left { λ _. ⌜ reply (buffersOf (now (panel .entry)) (now (program .entry)) (now (memory .entry))) (reading signal) .buffers ≡ buffersOf (now (panel .entry)) (now (program .entry)) (now (memory .entry)) ⌝ }
+{
+    session_calls::read(panel, program, memory, signal)
+}
+
+// Runs so many cycles, or fewer where the watch stops it.
+#[no_mangle]
+pub extern "C" fn cavundir_run(
+    panel: &mut [u8],
+    program: &[u8],
+    memory: &mut [u8],
+    cycles: u32,
+) -> u64
+    ensures answer { λ r. ⌜ r ≡ answerBits (reply (buffersOf (now (panel .entry)) (now (program .entry)) (now (memory .entry))) (running cycles) .answer) ⌝ }
+    ensures left { λ _. ⌜ reply (buffersOf (now (panel .entry)) (now (program .entry)) (now (memory .entry))) (running cycles) .buffers ≡ buffersOf (now (panel .exit)) (now (program .entry)) (now (memory .exit)) ⌝ }
+{
+    session_calls::run(panel, program, memory, cycles)
+}
