@@ -1,0 +1,50 @@
+"""What the suites share about programs: compiling them, running them, and tools that a machine may lack."""
+import os
+import shutil
+import subprocess
+from concurrent.futures import ThreadPoolExecutor
+from pathlib import Path
+
+root = Path(__file__).resolve().parent.parent.parent
+C_FLAGS = "-std=c17", "-O2", "-g", "-Wall", "-Wextra", "-Werror", "-I", root / "include"
+LONGEST = 120  # seconds for a program
+
+
+def run(words, **options):
+    """Exit status, standard output and standard error of a command; status None where it did not end."""
+    try:
+        done = subprocess.run(words, stdin=subprocess.DEVNULL, capture_output=True, text=True,
+                              timeout=LONGEST, **options)
+    except subprocess.TimeoutExpired:
+        return None, "", f"not done in {LONGEST} s"
+    return done.returncode, done.stdout, done.stderr
+
+
+def compiled(score, source, program, *words, compiler="gcc"):
+    """The program, compiled from a source; None, and a fault counted, where that fails."""
+    status, _, said = run([compiler, source, *words, "-o", program])
+    right = score.expect(status == 0, f"{source}: {compiler}: exit status {status}\n{said}")
+    return program if right else None
+
+
+def each(function, items):
+    """Calls a function on each, as many at a time as there are processors. The answers, in order."""
+    with ThreadPoolExecutor(os.cpu_count()) as pool:
+        return list(pool.map(function, items))
+
+
+def tool(command, package):
+    """Whether a command is there; tests/lib/need installs it where it can."""
+    if not shutil.which(command):
+        run([root / "tests" / "lib" / "need", command, package])
+    return shutil.which(command) is not None
+
+
+def skip(what, why):
+    print(f"skipped: {what}, since {why}", flush=True)
+
+
+def first_difference(found, wanted):
+    """The first line in which two texts differ, in words."""
+    pairs = enumerate(zip(found.splitlines() + ["nothing"], wanted.splitlines() + ["nothing"]), 1)
+    return next((f"line {number} is '{a}', expected '{b}'" for number, (a, b) in pairs if a != b), "the same is printed")
