@@ -10,13 +10,12 @@ C_FLAGS = "-std=c17", "-O2", "-g", "-Wall", "-Wextra", "-Werror", "-I", root / "
 LONGEST = 120  # seconds for a program
 
 
-def run(words, **options):
-    """Exit status, standard output and standard error of a command; status None where it did not end."""
+def run(words, seconds=LONGEST, **options):
+    """Exit status, standard output and standard error of a command; the status is None where it did not end."""
     try:
-        done = subprocess.run(words, stdin=subprocess.DEVNULL, capture_output=True, text=True,
-                              timeout=LONGEST, **options)
+        done = subprocess.run(words, stdin=subprocess.DEVNULL, capture_output=True, text=True, timeout=seconds, **options)
     except subprocess.TimeoutExpired:
-        return None, "", f"not done in {LONGEST} s"
+        return None, "", f"not done in {seconds} s"
     return done.returncode, done.stdout, done.stderr
 
 
@@ -28,8 +27,8 @@ def compiled(score, source, program, *words, compiler="gcc"):
 
 
 def each(function, items):
-    """Calls a function on each, as many at a time as there are processors. The answers, in order."""
-    with ThreadPoolExecutor(os.cpu_count()) as pool:
+    """Calls a function on each, as many at a time as there are processors to run on. The answers, in order."""
+    with ThreadPoolExecutor(len(os.sched_getaffinity(0))) as pool:
         return list(pool.map(function, items))
 
 
