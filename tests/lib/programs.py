@@ -47,3 +47,10 @@ def first_difference(found, wanted):
     """The first line in which two texts differ, in words."""
     pairs = enumerate(zip(found.splitlines() + ["nothing"], wanted.splitlines() + ["nothing"]), 1)
     return next((f"line {number} is '{a}', expected '{b}'" for number, (a, b) in pairs if a != b), "the same is printed")
+
+
+def expect_printed(score, what, found, wanted):
+    """A run, as `run` answers it, must print what is wanted, nothing on standard error, and exit with 0."""
+    status, out, said = found
+    words = f"{what}: exit status {status}; {first_difference(out, wanted)}\n{said}"
+    return score.expect(found == (0, wanted, ""), words.rstrip())
