@@ -35,7 +35,7 @@ def each(function, items):
 def tool(command, package):
     """Whether a command is there; tests/lib/need installs it where it can."""
     if not shutil.which(command):
-        run([root / "tests" / "lib" / "need", command, package])
+        run([root / "tests" / "lib" / "need", command, package], seconds=600)
     return shutil.which(command) is not None
 
 
