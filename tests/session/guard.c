@@ -99,6 +99,7 @@ static void check(int which, struct bytes expected)
             fail("it wrote beside ", name_of(which));
 }
 
+/* Makes a call on guarded copies of these bytes, and compares it with what is expected of it. */
 static void make_guarded(const struct call *call, const struct bytes from[LENT], uint64_t expected,
                          const struct bytes after[LENT])
 {
@@ -119,6 +120,7 @@ static void make_guarded(const struct call *call, const struct bytes from[LENT],
     made++;
 }
 
+/* Makes a call on copies of these bytes: on ordinary memory, before a guarded page and after one. */
 static void try(const struct call *call, const struct bytes from[LENT])
 {
     struct bytes after[LENT] = {0};
@@ -181,7 +183,7 @@ static const struct call session_calls[] = {
 };
 enum { SESSION_CALLS = sizeof session_calls / sizeof *session_calls };
 
-/* The calls on buffers with one byte that is out of every range. */
+/* The calls on buffers with one byte changed to 255, which most ranges do not have. */
 static void try_damaged(struct bytes from[LENT])
 {
     for (int b = FILES; b < LENT; b++)
