@@ -11,7 +11,7 @@ from pathlib import Path
 
 sys.dont_write_bytecode = True
 root = Path(__file__).resolve().parent.parent
-sys.path[:0] = [str(root / "tests"), str(root / "tests" / "independent")]
+sys.path[:0] = [str(root / "tests" / "lib"), str(root / "tests" / "independent")]
 import generate
 import library
 

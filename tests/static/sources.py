@@ -161,7 +161,7 @@ def unused_imports(path):
 
 
 def main():
-    root = Path(__file__).resolve().parent.parent
+    root = Path(__file__).resolve().parent.parent.parent
     passed = failed = 0
     for path in sorted([*root.glob("crates/*/**/*.antt"), *root.glob("crates/*/**/*.rt")]):
         faults = unused_imports(path)

@@ -1,0 +1,243 @@
+/* guard FOLDER: the panel's calls on buffers beside pages that nobody may touch.
+ *
+ * Each buffer lent ends at such a page, and in a second round begins after one; one that is lent to read stands on pages
+ * that cannot be written. A buffer has 0 bytes, 1, one too few, as many as it should or one too many, each length of one
+ * with each of the others; NET, MOD and STIM are those of FOLDER, cut or a byte longer. Answer and bytes must be those of
+ * the same call on ordinary memory; with a wrong length that is 40. Prints how many calls were made. Where a call touches
+ * what it was not lent, it says which byte, and exits with 1.
+ */
+#define _GNU_SOURCE
+#include <signal.h>
+#include <sys/mman.h>
+#include <unistd.h>
+
+#include "calls.h"
+
+enum { LENT = FILES + BUFFERS }; /* the files first, as the opening takes them */
+enum { VARIED = 5, SLACK = 0xC3, DAMAGED = 64 };
+
+/* A page that nobody may touch, the pages with the buffer, and another such page. */
+struct guarded {
+    uint8_t *map;
+    size_t inner;
+    struct bytes buffer;
+};
+
+static const char *folder;
+static const struct call *current;
+static struct guarded lent[LENT];
+static bool begins; /* the buffers begin after a guarded page; else they end at one */
+static const char *where;
+static size_t page;
+static unsigned long made;
+
+static const char *name_of(int which)
+{
+    return which < FILES ? file_names[which] : buffer_names[which - FILES];
+}
+
+/* The first of the buffers that a call takes: the opening alone takes files. */
+static int first_of(const struct call *call)
+{
+    return strcmp(call->name, "open") ? FILES : 0;
+}
+
+/* Says which call it was; what is wrong with it follows. */
+static void say_call(void)
+{
+    fprintf(stderr, "%s: %s %u %u, lent", folder, current->name, current->numbers[0], current->numbers[1]);
+    for (int l = first_of(current); l < LENT; l++)
+        fprintf(stderr, " %s of %zu%s", name_of(l), lent[l].buffer.length, l < LENT - 1 ? "," : "");
+    fprintf(stderr, " bytes, %s: ", where);
+}
+
+static void fail(const char *words, const char *of)
+{
+    say_call();
+    fprintf(stderr, "%s%s\n", words, of);
+    exit(1);
+}
+
+/* The signal of a page that was not to be touched. */
+static void touched(int number, siginfo_t *fault, void *context)
+{
+    (void)number, (void)context;
+    const uint8_t *at = fault->si_addr;
+    say_call();
+    for (int l = 0; l < LENT; l++)
+        if (lent[l].map && at >= lent[l].map && at < lent[l].map + lent[l].inner + 2 * page) {
+            fprintf(stderr, "it touched byte %td of %s\n", at - lent[l].buffer.at, name_of(l));
+            _exit(1);
+        }
+    fprintf(stderr, "it touched memory that was not lent\n");
+    _exit(1);
+}
+
+static struct guarded guard(struct bytes from)
+{
+    size_t inner = (from.length + page - 1) / page * page;
+    uint8_t *map = mmap(NULL, inner + 2 * page, PROT_NONE, MAP_PRIVATE | MAP_ANONYMOUS, -1, 0);
+    if (map == MAP_FAILED || (inner && mprotect(map + page, inner, PROT_READ | PROT_WRITE))) {
+        perror("mmap");
+        exit(2);
+    }
+    struct bytes buffer = {map + page + (begins ? 0 : inner - from.length), from.length};
+    memset(map + page, SLACK, inner);
+    memcpy(buffer.at, from.at, from.length);
+    return (struct guarded){map, inner, buffer};
+}
+
+/* The bytes must be as expected, and those that share a page with them as they were. */
+static void check(int which, struct bytes expected)
+{
+    const struct guarded *found = &lent[which];
+    if (memcmp(found->buffer.at, expected.at, expected.length))
+        fail("it left other bytes than on ordinary memory in ", name_of(which));
+    const uint8_t *slack = begins ? found->buffer.at + expected.length : found->map + page;
+    for (size_t i = 0; i < found->inner - expected.length; i++)
+        if (slack[i] != SLACK)
+            fail("it wrote beside ", name_of(which));
+}
+
+/* Makes a call on guarded copies of these bytes, and compares it with what is expected of it. */
+static void make_guarded(const struct call *call, const struct bytes from[LENT], uint64_t expected,
+                         const struct bytes after[LENT])
+{
+    struct bytes buffers[LENT] = {0};
+    for (int l = first_of(call); l < LENT; l++) {
+        lent[l] = guard(from[l]);
+        buffers[l] = lent[l].buffer;
+        if (lent[l].inner && (l < FILES || !writes(call, l - FILES)))
+            mprotect(lent[l].map + page, lent[l].inner, PROT_READ);
+    }
+    if (make(call, buffers, buffers + FILES) != expected)
+        fail("its answer is not that on ordinary memory", "");
+    for (int l = first_of(call); l < LENT; l++) {
+        check(l, after[l]);
+        munmap(lent[l].map, lent[l].inner + 2 * page);
+        lent[l].map = NULL;
+    }
+    made++;
+}
+
+/* Makes a call on copies of these bytes: on ordinary memory, before a guarded page and after one. */
+static void try(const struct call *call, const struct bytes from[LENT])
+{
+    struct bytes after[LENT] = {0};
+    bool right = true;
+    current = call;
+    where = "on ordinary memory";
+    for (int l = first_of(call); l < LENT; l++) {
+        lent[l].buffer = after[l] = block(from[l].length);
+        memcpy(after[l].at, from[l].at, from[l].length);
+        right = right && (l < FILES || from[l].length == lengths[l - FILES]);
+    }
+    uint64_t expected = make(call, after, after + FILES);
+    if ((cavundir_refusal(expected) == CAVUNDIR_LENGTH) == right)
+        fail(right ? "40 with right lengths" : "not 40 with a wrong length", "");
+    for (int side = 0; side < 2; side++) {
+        begins = side;
+        where = begins ? "after a guarded page" : "before a guarded page";
+        make_guarded(call, from, expected, after);
+    }
+    for (int l = first_of(call); l < LENT; l++)
+        free(after[l].at);
+}
+
+/* The call with every length of three buffers, from `first` on. Each has a byte more than its length says. */
+static void try_lengths(const struct call *call, const struct bytes from[LENT], int first)
+{
+    struct bytes varied[LENT];
+    memcpy(varied, from, sizeof varied);
+    for (int choice = 0; choice < VARIED * VARIED * VARIED; choice++) {
+        for (int l = first, rest = choice; l < first + 3; l++, rest /= VARIED) {
+            size_t whole = from[l].length;
+            varied[l].length = (size_t[]){0, 1, whole ? whole - 1 : 0, whole, whole + 1}[rest % VARIED];
+        }
+        try(call, varied);
+    }
+}
+
+/* Every call but the opening, with every signal of a session and one too many. */
+static void try_numbers(const struct bytes from[LENT])
+{
+    static const uint32_t cycles[] = {0, 1, 2, 5, 65536, UINT32_MAX};
+    uint32_t size = from[FILES + PANEL].at[0] + 256u * from[FILES + PANEL].at[1];
+    for (uint32_t signal = 0; signal <= size + 1; signal++) {
+        try(&(struct call){.name = "set", .numbers = {signal, signal % 5}}, from);
+        try(&(struct call){.name = "watch", .numbers = {signal, signal % 17}}, from);
+        try(&(struct call){.name = "read", .numbers = {signal}}, from);
+    }
+    try(&(struct call){.name = "set", .numbers = {UINT32_MAX, UINT32_MAX}}, from);
+    try(&(struct call){.name = "watch", .numbers = {UINT32_MAX, UINT32_MAX}}, from);
+    try(&(struct call){.name = "read", .numbers = {UINT32_MAX}}, from);
+    for (size_t i = 0; i < sizeof cycles / sizeof *cycles; i++)
+        try(&(struct call){.name = "run", .numbers = {cycles[i]}}, from);
+}
+
+static const struct call session_calls[] = {
+    {.name = "set", .numbers = {1, 1}},
+    {.name = "watch", .numbers = {1, 15}},
+    {.name = "read", .numbers = {1}},
+    {.name = "run", .numbers = {2}},
+};
+enum { SESSION_CALLS = sizeof session_calls / sizeof *session_calls };
+
+/* The calls on buffers with one byte changed to 255, which most ranges do not have. */
+static void try_damaged(struct bytes from[LENT])
+{
+    for (int b = FILES; b < LENT; b++)
+        for (int at = 0; at < DAMAGED; at++) {
+            uint8_t kept = from[b].at[at];
+            from[b].at[at] = 255;
+            for (int c = 0; c < SESSION_CALLS; c++)
+                try(&session_calls[c], from);
+            from[b].at[at] = kept;
+        }
+}
+
+/* A block with two bytes more than its length says: a file of length 0 is lent with 1 too. */
+static struct bytes padded(struct bytes from)
+{
+    struct bytes made = block(from.length + 2);
+    memset(made.at, 0, made.length);
+    if (from.length)
+        memcpy(made.at, from.at, from.length);
+    return (struct bytes){made.at, from.length};
+}
+
+int main(int count, char **words)
+{
+    if (count != 2) {
+        fprintf(stderr, "usage: guard FOLDER\n");
+        return 2;
+    }
+    folder = words[1];
+    page = (size_t)sysconf(_SC_PAGESIZE);
+    struct sigaction action = {.sa_sigaction = touched, .sa_flags = SA_SIGINFO};
+    sigaction(SIGSEGV, &action, NULL);
+    sigaction(SIGBUS, &action, NULL);
+
+    struct bytes from[LENT];
+    for (int f = 0; f < FILES; f++)
+        from[f] = padded(read_file(folder, file_names[f]));
+    for (int b = 0; b < BUFFERS; b++) {
+        from[FILES + b] = block(lengths[b] + 1);
+        memset(from[FILES + b].at, 0xFF, lengths[b] + 1);
+        from[FILES + b].length = lengths[b];
+    }
+    const struct call opening = {.name = "open"};
+    try_lengths(&opening, from, 0);
+    try_lengths(&opening, from, FILES);
+    for (int c = 0; c < SESSION_CALLS; c++)
+        try_lengths(&session_calls[c], from, FILES);
+
+    /* refused or not, the opening leaves bytes that the calls have to do with */
+    make(&opening, from, from + FILES);
+    for (int c = 0; c < SESSION_CALLS; c++)
+        try_lengths(&session_calls[c], from, FILES);
+    try_numbers(from);
+    try_damaged(from);
+    printf("%lu calls\n", made);
+    return 0;
+}
