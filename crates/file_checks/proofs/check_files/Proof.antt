@@ -8,15 +8,6 @@ use borrow.Author.Needs.{needs}
 use Rattle.file_checks.proofs.check_files.Statement.{statement}
 use Rattle.file_checks.proofs.check_files.Tie as tie
 
-check-net-requires : tie.Need-check-net-requires
-check-net-requires c κs = search needs
-
-enum-told : tie.Need-enum-told
-enum-told c = search needs
-
-net-answer-requires : tie.Need-net-answer-requires
-net-answer-requires c κs = search needs
-
 returns : tie.Need-returns
 returns c =
     let s = c .before .before .before .before .before .before in
@@ -26,12 +17,6 @@ returns c =
 
 check-mod-requires : tie.Need-check-mod-requires
 check-mod-requires c κs = stage-pass _ _ _ _ (c .before .before .check-net .ensures) (c .enum-told .given .1)
-
-enum-told-2 : tie.Need-enum-told-2
-enum-told-2 c = search needs
-
-mod-answer-requires : tie.Need-mod-answer-requires
-mod-answer-requires c κs = search needs
 
 returns-2 : tie.Need-returns-2
 returns-2 c =
@@ -43,9 +28,6 @@ returns-2 c =
 
 check-stim-requires : tie.Need-check-stim-requires
 check-stim-requires c κs = stage-pass _ _ _ _ (c .before .before .before .before .before .check-net .ensures) (c .before .before .before .enum-told .given .1)
-
-stim-answer-requires : tie.Need-stim-answer-requires
-stim-answer-requires c κs = search needs
 
 returns-3 : tie.Need-returns-3
 returns-3 c =
@@ -59,14 +41,14 @@ pub check-files-spec : {M : Type 1} → statement M
 check-files-spec =
     tie.close
     (tie.spec
-    check-net-requires
-    enum-told
-    net-answer-requires
+    (λ c κs. search needs)
+    (λ c. search needs)
+    (λ c κs. search needs)
     returns
     check-mod-requires
-    enum-told-2
-    mod-answer-requires
+    (λ c. search needs)
+    (λ c κs. search needs)
     returns-2
     check-stim-requires
-    stim-answer-requires
+    (λ c κs. search needs)
     returns-3)

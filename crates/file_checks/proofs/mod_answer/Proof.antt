@@ -1,30 +1,7 @@
+-- By cases of the answer: each number and returned value is that of `modRefusal`.
 use borrow.Author.Needs.{needs}
 use Rattle.file_checks.proofs.mod_answer.Statement.{statement}
 use Rattle.file_checks.proofs.mod_answer.Tie as tie
-
-enum-told : tie.Need-enum-told
-enum-told c = search needs
-
-enum-known-answer : tie.Need-enum-known-answer
-enum-known-answer c = search needs
-
-enum-known-answer-2 : tie.Need-enum-known-answer-2
-enum-known-answer-2 c = search needs
-
-enum-known-answer-3 : tie.Need-enum-known-answer-3
-enum-known-answer-3 c = search needs
-
-enum-known-answer-4 : tie.Need-enum-known-answer-4
-enum-known-answer-4 c = search needs
-
-enum-known-answer-5 : tie.Need-enum-known-answer-5
-enum-known-answer-5 c = search needs
-
-enum-known-answer-6 : tie.Need-enum-known-answer-6
-enum-known-answer-6 c = search needs
-
-returns : tie.Need-returns
-returns c = search needs
 
 returns-2 : tie.Need-returns-2
 returns-2 c = rw (c .before .answer .given .1)
@@ -48,14 +25,14 @@ pub mod-answer-spec : {M : Type 1} → statement M
 mod-answer-spec =
     tie.close
     (tie.spec
-    enum-told
-    enum-known-answer
-    enum-known-answer-2
-    enum-known-answer-3
-    enum-known-answer-4
-    enum-known-answer-5
-    enum-known-answer-6
-    returns
+    (λ c. search needs)
+    (λ c. search needs)
+    (λ c. search needs)
+    (λ c. search needs)
+    (λ c. search needs)
+    (λ c. search needs)
+    (λ c. search needs)
+    (λ c. search needs)
     returns-2
     returns-3
     returns-4

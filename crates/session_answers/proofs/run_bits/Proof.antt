@@ -1,11 +1,9 @@
+-- The cycles done, and 65536 where the run was stopped.
 use Rattle.session_answers.specs.Answers.{answerBits}
 use native.Mathlib.Omega.{arith}
 use borrow.Author.Needs.{needs}
 use Rattle.session_answers.proofs.run_bits.Statement.{statement}
 use Rattle.session_answers.proofs.run_bits.Tie as tie
-
-add-result : tie.Need-add-result
-add-result c = search needs
 
 returns : tie.Need-returns
 unfolding answerBits
@@ -16,4 +14,4 @@ unfolding answerBits
 returns-2 c = rw (c .if1 .left) (omega arith)
 
 pub run-bits-spec : {M : Type 1} → statement M
-run-bits-spec = tie.close (tie.spec add-result returns returns-2)
+run-bits-spec = tie.close (tie.spec (λ c. search needs) returns returns-2)

@@ -5,24 +5,6 @@ use borrow.Author.Needs.{needs}
 use Rattle.session_calls.proofs.read.Statement.{statement}
 use Rattle.session_calls.proofs.read.Tie as tie
 
-readiness-requires : tie.Need-readiness-requires
-readiness-requires c κs = search needs
-
-enum-told : tie.Need-enum-told
-enum-told c = search needs
-
-bits-requires : tie.Need-bits-requires
-bits-requires c κs = search needs
-
-enum-told-2 : tie.Need-enum-told-2
-enum-told-2 c = search needs
-
-bits-requires-2 : tie.Need-bits-requires-2
-bits-requires-2 c κs = search needs
-
-enum-told-3 : tie.Need-enum-told-3
-enum-told-3 c = search needs
-
 read-in-requires : tie.Need-read-in-requires
 read-in-requires c κs =
     let judged = c .before .before .readiness .ensures in
@@ -42,12 +24,12 @@ pub read-spec : {M : Type 1} → statement M
 read-spec =
     tie.close
     (tie.spec
-    readiness-requires
-    enum-told
-    bits-requires
-    enum-told-2
-    bits-requires-2
-    enum-told-3
+    (λ c κs. search needs)
+    (λ c. search needs)
+    (λ c κs. search needs)
+    (λ c. search needs)
+    (λ c κs. search needs)
+    (λ c. search needs)
     read-in-requires
     returns
     returns-2

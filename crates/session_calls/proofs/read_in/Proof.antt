@@ -4,19 +4,10 @@ use borrow.Author.Needs.{needs}
 use Rattle.session_calls.proofs.read_in.Statement.{statement}
 use Rattle.session_calls.proofs.read_in.Tie as tie
 
-decode-requires : tie.Need-decode-requires
-decode-requires c κs = search needs
-
-read-requires : tie.Need-read-requires
-read-requires c κs = search needs
-
-bits-requires : tie.Need-bits-requires
-bits-requires c κs = search needs
-
 returns : tie.Need-returns
 returns c =
     let s = c .before .before .before .before .before in
     λ program. let d = c .before .before .decode .ensures in reads (s .args .panel .now) program (s .args .memory .now) (s .args .signal) _ (d .0) (d .1) _ (c .before .read .ensures program) _ (c .bits .ensures)
 
 pub read-in-spec : {M : Type 1} → statement M
-read-in-spec = tie.close (tie.spec decode-requires read-requires bits-requires returns)
+read-in-spec = tie.close (tie.spec (λ c κs. search needs) (λ c κs. search needs) (λ c κs. search needs) returns)

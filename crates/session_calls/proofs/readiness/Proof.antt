@@ -6,9 +6,6 @@ use borrow.Author.Needs.{needs}
 use Rattle.session_calls.proofs.readiness.Statement.{statement}
 use Rattle.session_calls.proofs.readiness.Tie as tie
 
-lengths-right-requires : tie.Need-lengths-right-requires
-lengths-right-requires c κs = search needs
-
 returns : tie.Need-returns
 returns c = wrong-length _ (fails _ _ (c .before .lengths-right .ensures) (c .if1 .taken))
 
@@ -28,4 +25,4 @@ returns-3 c =
     in-range _ (passes _ _ (test .before .lengths-right .ensures) (test .if1 .left)) (passes _ _ (c .before .in-range .ensures) (c .if2 .left))
 
 pub readiness-spec : {M : Type 1} → statement M
-readiness-spec = tie.close (tie.spec lengths-right-requires returns in-range-requires returns-2 returns-3)
+readiness-spec = tie.close (tie.spec (λ c κs. search needs) returns in-range-requires returns-2 returns-3)

@@ -9,21 +9,6 @@ use borrow.Author.Needs.{needs}
 use Rattle.session_calls.proofs.run_in.Statement.{statement}
 use Rattle.session_calls.proofs.run_in.Tie as tie
 
-decode-requires : tie.Need-decode-requires
-decode-requires c κs = search needs
-
-run-requires : tie.Need-run-requires
-run-requires c κs = search needs
-
-tell-requires : tie.Need-tell-requires
-tell-requires c κs = search needs
-
-same-length : tie.Need-same-length
-same-length c = search needs
-
-same-length-2 : tie.Need-same-length-2
-same-length-2 c = search needs
-
 returns : tie.Need-returns
 returns c =
     let s = c .before .before .before .before .before .before .before .before .before .before .before .before .before .before in
@@ -36,4 +21,4 @@ returns c =
 pub run-in-spec : {M : Type 1} → statement M
 run-in-spec =
     tie.close
-    (tie.spec decode-requires run-requires tell-requires same-length same-length-2 returns)
+    (tie.spec (λ c κs. search needs) (λ c κs. search needs) (λ c κs. search needs) (λ c. search needs) (λ c. search needs) returns)

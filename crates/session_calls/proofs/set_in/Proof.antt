@@ -4,18 +4,6 @@ use borrow.Author.Needs.{needs}
 use Rattle.session_calls.proofs.set_in.Statement.{statement}
 use Rattle.session_calls.proofs.set_in.Tie as tie
 
-decode-requires : tie.Need-decode-requires
-decode-requires c κs = search needs
-
-set-requires : tie.Need-set-requires
-set-requires c κs = search needs
-
-tell-requires : tie.Need-tell-requires
-tell-requires c κs = search needs
-
-same-length : tie.Need-same-length
-same-length c = search needs
-
 returns : tie.Need-returns
 returns c =
     let s = c .before .before .before .before .before .before .before .before .before in
@@ -23,4 +11,4 @@ returns c =
     λ program memory. writes (s .args .panel .now) program memory _ _ (d .0) (d .1) _ (c .before .before .before .before .set .ensures program memory) _ _ (c .before .before .tell .ensures .0) (c .before .before .tell .ensures .1)
 
 pub set-in-spec : {M : Type 1} → statement M
-set-in-spec = tie.close (tie.spec decode-requires set-requires tell-requires same-length returns)
+set-in-spec = tie.close (tie.spec (λ c κs. search needs) (λ c κs. search needs) (λ c κs. search needs) (λ c. search needs) returns)

@@ -5,44 +5,17 @@ use borrow.Author.Needs.{needs}
 use Rattle.session_calls.proofs.watch.Statement.{statement}
 use Rattle.session_calls.proofs.watch.Tie as tie
 
-readiness-requires : tie.Need-readiness-requires
-readiness-requires c κs = search needs
-
-enum-told : tie.Need-enum-told
-enum-told c = search needs
-
-bits-requires : tie.Need-bits-requires
-bits-requires c κs = search needs
-
-enum-told-2 : tie.Need-enum-told-2
-enum-told-2 c = search needs
-
-bits-requires-2 : tie.Need-bits-requires-2
-bits-requires-2 c κs = search needs
-
-enum-told-3 : tie.Need-enum-told-3
-enum-told-3 c = search needs
-
 watch-in-requires : tie.Need-watch-in-requires
 watch-in-requires c κs =
     let judged = c .before .before .before .readiness .ensures in
     let right = c .before .enum-told3 .given .1 in
     (right-sizes _ _ judged right .panel-size, right-signals _ _ judged right)
 
-same-length : tie.Need-same-length
-same-length c = search needs
-
 returns : tie.Need-returns
 returns c = replies-40 _ _ _ (c .before .before .before .readiness .ensures) (c .before .enum-told .given .1) _ (c .bits .ensures)
 
-same-length-2 : tie.Need-same-length-2
-same-length-2 c = search needs
-
 returns-2 : tie.Need-returns-2
 returns-2 c = replies-44 _ _ _ (c .before .before .before .readiness .ensures) (c .before .enum-told2 .given .1) _ (c .bits2 .ensures)
-
-same-length-3 : tie.Need-same-length-3
-same-length-3 c = search needs
 
 returns-3 : tie.Need-returns-3
 returns-3 c = replies _ _ _ (c .before .before .before .before .before .before .readiness .ensures) (c .before .before .before .before .enum-told3 .given .1) _ _ (c .before .before .watch-in .ensures _ _) (watch-state _ _ _ _ _ _)
@@ -51,16 +24,16 @@ pub watch-spec : {M : Type 1} → statement M
 watch-spec =
     tie.close
     (tie.spec
-    readiness-requires
-    enum-told
-    bits-requires
-    enum-told-2
-    bits-requires-2
-    enum-told-3
+    (λ c κs. search needs)
+    (λ c. search needs)
+    (λ c κs. search needs)
+    (λ c. search needs)
+    (λ c κs. search needs)
+    (λ c. search needs)
     watch-in-requires
-    same-length
+    (λ c. search needs)
     returns
-    same-length-2
+    (λ c. search needs)
     returns-2
-    same-length-3
+    (λ c. search needs)
     returns-3)

@@ -4,18 +4,6 @@ use borrow.Author.Needs.{needs}
 use Rattle.session_calls.proofs.watch_in.Statement.{statement}
 use Rattle.session_calls.proofs.watch_in.Tie as tie
 
-decode-requires : tie.Need-decode-requires
-decode-requires c κs = search needs
-
-watch-requires : tie.Need-watch-requires
-watch-requires c κs = search needs
-
-tell-requires : tie.Need-tell-requires
-tell-requires c κs = search needs
-
-same-length : tie.Need-same-length
-same-length c = search needs
-
 returns : tie.Need-returns
 returns c =
     let s = c .before .before .before .before .before .before .before .before .before in
@@ -24,4 +12,4 @@ returns c =
 
 pub watch-in-spec : {M : Type 1} → statement M
 watch-in-spec =
-    tie.close (tie.spec decode-requires watch-requires tell-requires same-length returns)
+    tie.close (tie.spec (λ c κs. search needs) (λ c κs. search needs) (λ c κs. search needs) (λ c. search needs) returns)

@@ -9,36 +9,12 @@ use borrow.Author.Needs.{needs}
 use Rattle.session_opening.proofs.open.Statement.{statement}
 use Rattle.session_opening.proofs.open.Tie as tie
 
-lengths-right-requires : tie.Need-lengths-right-requires
-lengths-right-requires c κs = search needs
-
-refuse-requires : tie.Need-refuse-requires
-refuse-requires c κs = search needs
-
-same-length : tie.Need-same-length
-same-length c = search needs
-
-same-length-2 : tie.Need-same-length-2
-same-length-2 c = search needs
-
-same-length-3 : tie.Need-same-length-3
-same-length-3 c = search needs
-
 returns : tie.Need-returns
 returns c =
     let test = c .before .before .before .before .before .before .before .before .before .before in
     let e = wrong-length _ _ (sym (test .before .lengths-right .ensures) ∙ not-true _ (test .if1 .taken)) in
     let r = c .before .before .before .before .before .before .refuse .ensures in
     (r .0 ∙ refused-bits e, (r .1 .0 ∙ refused-left e _ _, (r .1 .1 .0 ∙ refused-left e _ _, r .1 .1 .1 ∙ refused-left e _ _)))
-
-check-files-requires : tie.Need-check-files-requires
-check-files-requires c κs = search needs
-
-enum-known-number : tie.Need-enum-known-number
-enum-known-number c = search needs
-
-enum-told : tie.Need-enum-told
-enum-told c = search needs
 
 load-requires : tie.Need-load-requires
 load-requires c κs =
@@ -47,15 +23,6 @@ load-requires c κs =
     let e = files-accepted _ _ (told .before .before .check-files .ensures) (told .enum-told .given .1) in
     let l = same-sizes _ _ _ (sym (test .before .lengths-right .ensures) ∙ not-false _ (test .if1 .left)) in
     (net-accepted 4096 _ e, (mod-accepted 4096 _ e, (stim-accepted 4096 _ e, (l .panel-size, l .program-size, l .memory-size))))
-
-same-length-4 : tie.Need-same-length-4
-same-length-4 c = search needs
-
-same-length-5 : tie.Need-same-length-5
-same-length-5 c = search needs
-
-same-length-6 : tie.Need-same-length-6
-same-length-6 c = search needs
 
 returns-2 : tie.Need-returns-2
 returns-2 c =
@@ -70,18 +37,6 @@ returns-2 c =
     let r = c .before .before .before .before .before .before .load .ensures in
     (accepted-bits e, (accepted-left e _ (panelOf net modfile stim) _ (r .0), (accepted-left e _ (programOf modfile) _ (r .1 .0), accepted-left e _ (openingBytes net modfile stim) _ (r .1 .1))))
 
-refuse-requires-2 : tie.Need-refuse-requires-2
-refuse-requires-2 c κs = search needs
-
-same-length-7 : tie.Need-same-length-7
-same-length-7 c = search needs
-
-same-length-8 : tie.Need-same-length-8
-same-length-8 c = search needs
-
-same-length-9 : tie.Need-same-length-9
-same-length-9 c = search needs
-
 returns-3 : tie.Need-returns-3
 returns-3 c =
     let told = c .before .before .before .before .before .before .before .before .before .before .before in
@@ -95,22 +50,22 @@ pub open-spec : {M : Type 1} → statement M
 open-spec =
     tie.close
     (tie.spec
-    lengths-right-requires
-    refuse-requires
-    same-length
-    same-length-2
-    same-length-3
+    (λ c κs. search needs)
+    (λ c κs. search needs)
+    (λ c. search needs)
+    (λ c. search needs)
+    (λ c. search needs)
     returns
-    check-files-requires
-    enum-known-number
-    enum-told
+    (λ c κs. search needs)
+    (λ c. search needs)
+    (λ c. search needs)
     load-requires
-    same-length-4
-    same-length-5
-    same-length-6
+    (λ c. search needs)
+    (λ c. search needs)
+    (λ c. search needs)
     returns-2
-    refuse-requires-2
-    same-length-7
-    same-length-8
-    same-length-9
+    (λ c κs. search needs)
+    (λ c. search needs)
+    (λ c. search needs)
+    (λ c. search needs)
     returns-3)

@@ -1,55 +1,8 @@
+-- By cases of the answer: the bits of each are put together as `answerBits` says.
 use Rattle.session_answers.specs.Answers.{answerBits}
 use borrow.Author.Needs.{needs}
 use Rattle.session_answers.proofs.CallAnswer.bits.Statement.{statement}
 use Rattle.session_answers.proofs.CallAnswer.bits.Tie as tie
-
-enum-told : tie.Need-enum-told
-enum-told c = search needs
-
-refusal-bits-requires : tie.Need-refusal-bits-requires
-refusal-bits-requires c κs = search needs
-
-enum-told-2 : tie.Need-enum-told-2
-enum-told-2 c = search needs
-
-refusal-bits-requires-2 : tie.Need-refusal-bits-requires-2
-refusal-bits-requires-2 c κs = search needs
-
-enum-known-self : tie.Need-enum-known-self
-enum-known-self c = search needs
-
-refusal-bits-requires-3 : tie.Need-refusal-bits-requires-3
-refusal-bits-requires-3 c κs = search needs
-
-enum-known-self-2 : tie.Need-enum-known-self-2
-enum-known-self-2 c = search needs
-
-refusal-bits-requires-4 : tie.Need-refusal-bits-requires-4
-refusal-bits-requires-4 c κs = search needs
-
-enum-known-self-3 : tie.Need-enum-known-self-3
-enum-known-self-3 c = search needs
-
-cast-refusal-bits : tie.Need-cast-refusal-bits
-cast-refusal-bits c = search needs
-
-refusal-bits-requires-5 : tie.Need-refusal-bits-requires-5
-refusal-bits-requires-5 c κs = search needs
-
-enum-told-3 : tie.Need-enum-told-3
-enum-told-3 c = search needs
-
-enum-known-self-4 : tie.Need-enum-known-self-4
-enum-known-self-4 c = search needs
-
-cast-result : tie.Need-cast-result
-cast-result c = search needs
-
-enum-known-self-5 : tie.Need-enum-known-self-5
-enum-known-self-5 c = search needs
-
-run-bits-requires : tie.Need-run-bits-requires
-run-bits-requires c κs = search needs
 
 returns : tie.Need-returns
 returns c = rw (c .before .enum-told .given .1) (c .refusal-bits .ensures)
@@ -81,22 +34,22 @@ pub bits-spec : {M : Type 1} → statement M
 bits-spec =
     tie.close
     (tie.spec
-    enum-told
-    refusal-bits-requires
-    enum-told-2
-    refusal-bits-requires-2
-    enum-known-self
-    refusal-bits-requires-3
-    enum-known-self-2
-    refusal-bits-requires-4
-    enum-known-self-3
-    cast-refusal-bits
-    refusal-bits-requires-5
-    enum-told-3
-    enum-known-self-4
-    cast-result
-    enum-known-self-5
-    run-bits-requires
+    (λ c. search needs)
+    (λ c κs. search needs)
+    (λ c. search needs)
+    (λ c κs. search needs)
+    (λ c. search needs)
+    (λ c κs. search needs)
+    (λ c. search needs)
+    (λ c κs. search needs)
+    (λ c. search needs)
+    (λ c. search needs)
+    (λ c κs. search needs)
+    (λ c. search needs)
+    (λ c. search needs)
+    (λ c. search needs)
+    (λ c. search needs)
+    (λ c κs. search needs)
     returns
     returns-2
     returns-3
