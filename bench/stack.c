@@ -1,5 +1,5 @@
-/* stack FOLDER..: the stack that each call needs, the most over the files NET, MOD and STIM of all folders. A call runs on a stack
- * of its own, filled with one byte before: the depth is from its caller's frame to the deepest byte that changed. */
+/* stack FOLDER..: the stack that each call needs, the most over the files NET, MOD and STIM of all folders. A call runs on
+ * a stack of its own, filled with one byte before: the depth is from its caller's frame to the deepest byte that changed. */
 #include <stdio.h>
 #include <stdlib.h>
 #include <string.h>
@@ -10,9 +10,9 @@
 enum { STACK = 1 << 20, FILLED = 0xA5, NET = 0, MOD, STIM, FILES };
 
 static const char *const names[FILES] = {"NET", "MOD", "STIM"};
-static uint8_t files[FILES][1 << 21], panel[CAVUNDIR_PANEL_BYTES], program[CAVUNDIR_PROGRAM_BYTES], memory[CAVUNDIR_MEMORY_BYTES];
+static uint8_t files[FILES][1 << 21], stack[STACK];
 static size_t lengths[FILES];
-static uint8_t stack[STACK];
+static uint8_t panel[CAVUNDIR_PANEL_BYTES], program[CAVUNDIR_PROGRAM_BYTES], memory[CAVUNDIR_MEMORY_BYTES];
 
 /* what the next call is given, and what it answered */
 static size_t program_bytes = sizeof program;

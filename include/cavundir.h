@@ -25,7 +25,7 @@
 extern "C" {
 #endif
 
-/* The version of this header and of the archive that it belongs to: 100 for each whole number, 1 for each after the point. */
+/* The version of this header and of its archive: 100 for each whole number, and 1 for each after the point. */
 #define CAVUNDIR_VERSION 100
 #define CAVUNDIR_VERSION_TEXT "1.0"
 
