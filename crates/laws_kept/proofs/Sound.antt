@@ -13,7 +13,7 @@ use Rattle.buffers_range.proofs.Ranged.{Values, is-ranged, panel-in-range, prog
 use Rattle.session_state.specs.Header.{headIn, withHead}
 use Rattle.session_state.specs.Commands.{withValue}
 use Rattle.session_state.proofs.Heads.{same-head, past-end}
-use Rattle.laws_kept.specs.Sound.{Sound}
+use Rattle.laws_kept.specs.Sound.{InRange, Sound}
 use Rattle.laws_kept.proofs.Heads.{session-byte, with-head-length, with-head-hand, with-head-processors, with-head-slots, with-head-finished, with-head-watched, with-head-mask}
 use Rattle.laws_kept.proofs.Panels.{replaced-else, with-value-in-range, with-head-panel, with-head-program}
 
