@@ -9,7 +9,7 @@ use Rattle.logic.specs.Test.{_and_, one}
 use Rattle.logic.proofs.Tests.{and-true, and-left, and-right}
 use Rattle.logic.specs.Choice.{if_then_else_}
 use Rattle.buffers_range.specs.Order.{pairRanged}
-use Rattle.buffers_range.proofs.Judged.{same-test, yes}
+use Rattle.logic.proofs.Judged.{same-test, yes}
 
 module _ (slots most part k : ℕ) (parts : most < 9) (some : 1 ≤ slots) where
   -- a pair that is none has a part above most
@@ -69,7 +69,7 @@ four-none a b c d p q r s e f g h =
     let l : a + b + c + d ≡ a + (b + (c + d)) = omega arith in
     rw l (both-none a (b + (c + d)) p (q and r and s) e (both-none b (c + d) q (r and s) f (both-none c d r s g h)))
 
--- a chain of two judgements by their counts: it stops where there is a fault, and else goes on
+-- a chain of two judgements by their counts: it chain-stops where there is a fault, and else goes on
 module _ (a b : ℕ) (p q rest : Bool) (e : eqb a 0 ≡ p) (f : eqb b 0 ≡ q) where
   pub faults-stop : (a + b ≡ 0 → ⊥) → p and q and rest ≡ false
   unfolding _and_

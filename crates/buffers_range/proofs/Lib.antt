@@ -1,4 +1,3 @@
-pub mod Judged
 pub mod Runs
 pub mod Numbers
 pub mod Signals

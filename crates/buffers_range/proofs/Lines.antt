@@ -16,7 +16,7 @@ use Rattle.buffers_tables.specs.Tables.{networkIn, moduleIn}
 use Rattle.buffers_range.specs.Ranges.{lineRanged}
 use Rattle.instruction.specs.Sender.{senderLaid}
 use Rattle.buffers_range.specs.Order.{pairRanged, pairAt, operandsAt, lineAt}
-use Rattle.buffers_range.proofs.Judged.{and-false}
+use Rattle.logic.proofs.Judged.{and-false}
 
 and-same : (a b c d : Bool) → a ≡ c → b ≡ d → a and b ≡ c and d
 and-same a b c d e f = rw (e, f)

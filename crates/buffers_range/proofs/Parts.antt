@@ -14,7 +14,7 @@ use Rattle.buffers_memory.specs.Memory.{memoryLength, blank, within}
 use Rattle.buffers_tables.specs.Panel.{processorsIn, slotsIn}
 use Rattle.buffers_range.specs.Ranges.{memoryRanged}
 use Rattle.buffers_range.specs.Order.{valuesIn, partAt, partsAt}
-use Rattle.buffers_range.proofs.Judged.{same-test}
+use Rattle.logic.proofs.Judged.{same-test}
 use Rattle.buffers_range.proofs.Runs.{zeros-byte, zeros-true}
 
 -- the largest number that byte a may be, by its processor, part and location

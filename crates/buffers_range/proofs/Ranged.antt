@@ -18,7 +18,7 @@ use Rattle.buffers_tables.specs.Panel.{panelLength, signalsIn, processorsIn, sl
 use Rattle.buffers_tables.specs.Program.{programLength, lineIn}
 use Rattle.buffers_tables.specs.Tables.{networkIn, moduleIn, Tables}
 use Rattle.buffers_range.specs.Ranges.{zeros, lineRanged, programRanged, memoryRanged, ranged}
-use Rattle.buffers_range.proofs.Judged.{and-false}
+use Rattle.logic.proofs.Judged.{and-false}
 use Rattle.buffers_range.proofs.Runs.{zeros-true}
 use Rattle.buffers_range.proofs.Numbers.{Head, Numbers, Panel, ranged-panel, panel-ranged}
 use Rattle.buffers_range.proofs.Laid.{Line, ranged-line, line-ranged, lines-laid}

@@ -1,4 +1,4 @@
--- What the loop over the signals answers: it stops at the first that is out of range, or the zeros above N decide.
+-- What the loop over the signals answers: it chain-stops at the first that is out of range, or the zeros above N decide.
 use Prim.Native.Nat.{ℕ, _+_, _-_, _*_, _<_, _≤_}
 use mathlib.Core.Path.{_≡_, _∙_, sym}
 use mathlib.Core.Bool.{true, false}
@@ -7,7 +7,7 @@ use Rattle.logic.specs.Test.{all}
 use Rattle.logic.proofs.Tests.{all-fails, all-ends}
 use Rattle.buffers_tables.specs.Panel.{signalsIn}
 use Rattle.buffers_range.specs.Ranges.{zeros, headRanged, signalRanged, panelRanged}
-use Rattle.buffers_range.proofs.Judged.{no, yes}
+use Rattle.logic.proofs.Judged.{no, yes}
 
 module _ (panel : List ℕ) (signals k : ℕ) (is : signals ≡ signalsIn panel) (head : headRanged panel ≡ true) where
   pub signals-stop : k < signals → signalRanged panel (k + 1) ≡ false → panelRanged panel ≡ false

@@ -16,7 +16,7 @@ use Rattle.buffers_tables.specs.Panel.{signalsIn, processorsIn, slotsIn}
 use Rattle.buffers_tables.specs.Tables.{networkIn, moduleIn}
 use Rattle.buffers_range.specs.Ranges.{zeros, lineRanged, programRanged}
 use Rattle.buffers_range.specs.Order.{lineAt, slotAt, slotsAt}
-use Rattle.buffers_range.proofs.Judged.{and-false, no, same-test}
+use Rattle.logic.proofs.Judged.{and-false, no, same-test}
 use Rattle.buffers_range.proofs.Runs.{zeros-byte, zeros-true}
 use Rattle.buffers_range.proofs.Lines.{line-order}
 

@@ -10,7 +10,7 @@ use Rattle.logic.specs.Choice.{if_then_else_}
 use Rattle.model.specs.Module.{localPresent, switchPresent, noPart}
 use Rattle.instruction.specs.Sender.{senderLaid}
 use Rattle.buffers_memory.specs.Memory.{blank}
-use Rattle.buffers_tables.specs.Panel.{word}
+use Rattle.words.specs.Word.{word}
 use Rattle.buffers_range.specs.Ranges.{zeros}
 
 -- a pair: a part that is most at most, with a location below C, or none

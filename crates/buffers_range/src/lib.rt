@@ -56,7 +56,7 @@ fn all_translations(bytes: &[u8], at: usize, count: usize) -> bool
     requires { ⌜ at + count ≤ length (now bytes) ⌝ }
     ensures { λ r. ⌜ r ≡ all count (λ k. isTranslation (getD (now (bytes .entry)) (at + k) 0)) ⌝ }
 {
-    gates::is_translation(buffers_tables::widened(largest(bytes, at, count)))
+    gates::is_translation(words::widened(largest(bytes, at, count)))
 }
 
 // A number from 1 up to a limit.
@@ -74,17 +74,17 @@ fn head_right(panel: &[u8]) -> bool
     requires { ⌜ length (now panel) ≡ panelLength ⌝ }
     ensures { λ r. ⌜ r ≡ headRanged (now (panel .entry)) ⌝ }
 {
-    let signals = buffers_tables::word_at(panel, 0);
+    let signals = words::word_at(panel, 0);
     if !counted(signals, 4096) {
         return false;
     }
-    if !counted(buffers_tables::widened(panel[2]), 16) {
+    if !counted(words::widened(panel[2]), 16) {
         return false;
     }
-    if !counted(buffers_tables::word_at(panel, 3), 256) {
+    if !counted(words::word_at(panel, 3), 256) {
         return false;
     }
-    if !counted(buffers_tables::word_at(panel, 7), signals) {
+    if !counted(words::word_at(panel, 7), signals) {
         return false;
     }
     panel[9] <= 15
@@ -99,7 +99,7 @@ fn codes_right(panel: &[u8], signal: usize) -> bool
     if panel[at] == 1 {
         return all_zero(panel, at + 1, 6);
     }
-    if !gates::is_function(buffers_tables::widened(panel[at + 1])) {
+    if !gates::is_function(words::widened(panel[at + 1])) {
         return false;
     }
     all_translations(panel, at + 2, 5)
@@ -111,7 +111,7 @@ fn signal_right(panel: &[u8], signal: usize) -> bool
     ensures { λ r. ⌜ r ≡ signalRanged (now (panel .entry)) signal ⌝ }
 {
     let at = 10 * signal;
-    if !counted(buffers_tables::widened(panel[at]), 3) {
+    if !counted(words::widened(panel[at]), 3) {
         return false;
     }
     if !codes_right(panel, signal) {
@@ -123,7 +123,7 @@ fn signal_right(panel: &[u8], signal: usize) -> bool
     if panel[2] <= panel[at + 8] {
         return false;
     }
-    buffers_tables::widened(panel[at + 9]) < buffers_tables::word_at(panel, 3)
+    words::widened(panel[at + 9]) < words::word_at(panel, 3)
 }
 
 // The panel: its head, signals 1 to N, and zeros above N.
@@ -134,7 +134,7 @@ fn panel_right(panel: &[u8]) -> bool
     if !head_right(panel) {
         return false;
     }
-    let signals = buffers_tables::word_at(panel, 0) as usize;
+    let signals = words::word_at(panel, 0) as usize;
     let mut k: usize = 0;
     while k < signals {
         if !signal_right(panel, k + 1) {
@@ -165,9 +165,9 @@ fn pair_faults(program: &[u8], at: usize, most: u16, slots: u16) -> u8
     requires { ⌜ (at + 2 ≤ length (now program)) × (most < 9) × (1 ≤ slots) ⌝ }
     ensures { λ r. ⌜ (eqb r 0 ≡ pairAt (now (program .entry)) at most slots) × (r ≤ 2) ⌝ }
 {
-    let part = reaches(buffers_tables::widened(program[at]), most + 1);
-    let location = reaches(buffers_tables::widened(program[at + 1]), slots);
-    let none = equals(buffers_tables::word_at(program, at), 9);
+    let part = reaches(words::widened(program[at]), most + 1);
+    let location = reaches(words::widened(program[at + 1]), slots);
+    let none = equals(words::word_at(program, at), 9);
     part + location - none
 }
 
@@ -188,17 +188,14 @@ fn line_right(program: &[u8], at: usize, signals: u16, processors: u8, slots: u1
     requires { ⌜ (at + 13 ≤ length (now program)) × (1 ≤ slots) ⌝ }
     ensures { λ r. ⌜ r ≡ lineAt (now (program .entry)) at signals processors slots ⌝ }
 {
-    if signals < buffers_tables::word_at(program, at) {
+    if signals < words::word_at(program, at) {
         return false;
     }
     let faults = operand_faults(program, at, slots) + pair_faults(program, at + 10, 1, slots);
     if faults != 0 {
         return false;
     }
-    instruction::sender_right(
-        buffers_tables::widened(program[at + 12]),
-        buffers_tables::widened(processors),
-    )
+    instruction::sender_right(words::widened(program[at + 12]), words::widened(processors))
 }
 
 // The 16 lines of a slot: those of P processors, and zeros.
@@ -242,9 +239,9 @@ fn program_right(panel: &[u8], program: &[u8]) -> bool
 {
     slots_right(
         program,
-        buffers_tables::word_at(panel, 0),
+        words::word_at(panel, 0),
         panel[2],
-        buffers_tables::word_at(panel, 3),
+        words::word_at(panel, 3),
     )
 }
 
@@ -294,7 +291,7 @@ fn memory_right(panel: &[u8], memory: &[u8]) -> bool
     requires { ⌜ slotsIn (now panel) ≤ 256 ⌝ }
     ensures { λ r. ⌜ r ≡ memoryRanged (now (panel .entry)) (now (memory .entry)) ⌝ }
 {
-    parts_right(memory, panel[2], buffers_tables::word_at(panel, 3))
+    parts_right(memory, panel[2], words::word_at(panel, 3))
 }
 
 // 44: every number of the working buffers is in its range.

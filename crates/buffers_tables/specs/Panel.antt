@@ -2,14 +2,11 @@
 use Prim.Native.Nat.{ℕ, _+_, _*_}
 use mathlib.Core.List.{List}
 use lib.ListN.{getD}
+use Rattle.words.specs.Word.{word}
 use Rattle.gates.specs.declared.Gate.{Gate}
 
 abbrev pub panelLength : ℕ
 panelLength = 40970
-
--- a number in two bytes, the low one first
-abbrev pub word : List ℕ → ℕ → ℕ
-word bytes at = getD bytes at 0 + 256 * getD bytes (at + 1) 0
 
 -- the session's numbers: N, P, C, the cycles finished, the watch
 abbrev pub signalsIn : List ℕ → ℕ

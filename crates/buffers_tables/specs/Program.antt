@@ -5,7 +5,7 @@ use mathlib.Core.List.{List}
 use lib.ListN.{getD}
 use Rattle.instruction.specs.Operand.{operandOf}
 use Rattle.instruction.specs.declared.Instruction.{Instruction}
-use Rattle.buffers_tables.specs.Panel.{word}
+use Rattle.words.specs.Word.{word}
 
 abbrev pub programLength : ℕ
 programLength = 53248

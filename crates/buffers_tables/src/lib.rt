@@ -1,10 +1,10 @@
 // The working tables: the panel and the program, read where their layout has each number.
 
 ghost use mathlib.Core.Path.{_≡_};
-ghost use Prim.Native.Nat.{_+_, _*_, _<_, _≤_};
+ghost use Prim.Native.Nat.{_+_, _<_, _≤_};
 ghost use lib.ListN.{length, getD};
 ghost use Rattle.instruction.specs.Operand.{operandOf};
-ghost use Rattle.buffers_tables.specs.Panel.{panelLength, word, codesIn};
+ghost use Rattle.buffers_tables.specs.Panel.{panelLength, codesIn};
 ghost use Rattle.buffers_tables.specs.Program.{programLength, lineIn, instructionIn};
 use gates::Gate;
 use instruction::Instruction;
@@ -15,28 +15,6 @@ pub struct Slot(pub u16);
 
 // A number of simulation cycles. It is no slot number.
 pub struct Cycle(pub u16);
-
-// A byte as a number of 16 bits.
-pub fn widened(x: u8) -> u16
-    ensures { λ r. ⌜ (r ≡ x) × (r < 256) ⌝ }
-{
-    x as u16
-}
-
-// The number in two bytes. That the low one is below 256 lets it be taken apart again.
-pub fn word_of(low: u8, high: u8) -> u16
-    ensures { λ r. ⌜ (r ≡ low + 256 * high) × (low < 256) ⌝ }
-{
-    widened(low) + 256 * widened(high)
-}
-
-// The number in two bytes at a place, the low one first.
-pub fn word_at(bytes: &[u8], at: usize) -> u16
-    requires { ⌜ at + 2 ≤ length (now bytes) ⌝ }
-    ensures { λ r. ⌜ r ≡ word (now (bytes .entry)) at ⌝ }
-{
-    word_of(bytes[at], bytes[at + 1])
-}
 
 // Where the line of a processor and a slot stands in the program.
 pub fn line_offset(processor: usize, slot: Slot) -> usize
@@ -52,7 +30,7 @@ fn named_in(program: &[u8], at: usize) -> Operand
     requires { ⌜ at + 2 ≤ length (now program) ⌝ }
     ensures { λ r. ⌜ r ≡ operandOf (getD (now (program .entry)) at 0) (getD (now (program .entry)) (at + 1) 0) ⌝ }
 {
-    instruction::operand_of(widened(program[at]), program[at + 1])
+    instruction::operand_of(words::widened(program[at]), program[at + 1])
 }
 
 // The line of a processor and a slot, decoded.
@@ -62,7 +40,7 @@ pub fn instruction_in(program: &[u8], processor: usize, slot: Slot) -> Instructi
 {
     let at = line_offset(processor, slot);
     Instruction {
-        signal: word_at(program, at),
+        signal: words::word_at(program, at),
         a1: named_in(program, at + 2),
         a2: named_in(program, at + 4),
         a3: named_in(program, at + 6),

@@ -1,12 +1,11 @@
 -- Fields and lines that lie within the first m bytes of a file are the same in those bytes alone.
-use Prim.Native.Nat.{ℕ, zero, suc, _+_, _-_, _*_, _<_, _≤_}
-use mathlib.Core.Path.{_≡_, refl, sym, ap}
-use mathlib.Core.Bool.{Bool}
+use Prim.Native.Nat.{ℕ, zero, suc, _+_, _-_, _*_, _≤_}
+use mathlib.Core.Path.{_≡_, sym, ap}
 use mathlib.Core.List.{List, [], _∷_}
 use native.Mathlib.Omega.{arith}
 use lib.ListN.{take, drop}
 use lib.Seq.{take-nil, take-take, getD-take}
-use Rattle.logic.specs.Test.{all}
+use Rattle.logic.proofs.Tests.{all-same}
 use Rattle.fields.specs.Field.{columnsAt, isField, isFieldAt, number, numberAt}
 use Rattle.fields.specs.Line.{isLineAt, lineLength}
 
@@ -15,11 +14,6 @@ drop-take zero m l = let e : m - 0 ≡ m = omega arith in rw e
 drop-take (suc i) zero l = let e : 0 - suc i ≡ 0 = omega arith in rw e
 drop-take (suc i) (suc m) [] = sym (take-nil (suc m - suc i))
 drop-take (suc i) (suc m) (x ∷ xs) = let e : suc m - suc i ≡ m - i = omega arith in rw e (drop-take i m xs)
-
-pub all-same : (p q : ℕ → Bool) (n : ℕ) → ((k : ℕ) → k < n → p k ≡ q k) → all n p ≡ all n q
-unfolding all
-all-same p q zero h = refl
-all-same p q (suc n) h = rw (all-same p q n (λ k l. h k (omega arith)), h n (omega arith))
 
 module _ (m : ℕ) (l : List ℕ) where
   columns-take : (at : ℕ) → at + 6 ≤ m → columnsAt (take m l) at ≡ columnsAt l at

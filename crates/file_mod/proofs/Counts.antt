@@ -19,7 +19,8 @@ use Rattle.file_mod_lines.specs.Answer.{Sized}
 use Rattle.model.specs.Refusal.{Check, pass, fail, unless, firstBelow}
 use Rattle.model.specs.Network.{Network}
 use Rattle.file_mod.specs.Counting.{countedOnce}
-use Rattle.file_mod_lines.proofs.Lines.{line-index, line-total, below-stops, below-goes-on, below-same}
+use Rattle.model.proofs.Refusals.{below-same}
+use Rattle.file_mod_lines.proofs.Lines.{line-index, line-total, below-stops, below-goes-on}
 
 -- Sums
 

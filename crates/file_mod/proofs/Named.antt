@@ -16,7 +16,7 @@ use Rattle.instruction.specs.declared.Operand.the-variants.{LocalEarlier, Local
 use Rattle.instruction.proofs.Pairs.{part-of-pair, location-of-pair}
 use Rattle.file_mod_lines.specs.Answer.{LinesLaid}
 use Rattle.instruction.specs.Instruction.{operandNamed, sendNamed}
-use Rattle.file_mod_lines.proofs.Judged.{and-false, and-yes}
+use Rattle.logic.proofs.Judged.{and-false, and-yes}
 use Rattle.file_mod.proofs.Slots.{slot-laid}
 
 -- an operand has a pair

@@ -14,7 +14,8 @@ use Rattle.file_mod.specs.Testing.{testRight, testAnswer, testCheck}
 use Rattle.file_mod_lines.specs.declared.ModAnswer.the-variants.{Accepted}
 use Rattle.file_mod.specs.declared.Test.{Test}
 use Rattle.file_mod.specs.declared.Test.the-variants.{Sends, Receptions, Operands}
-use Rattle.file_mod_lines.proofs.Lines.{line-index, line-total, below-stops, below-goes-on, below-same}
+use Rattle.model.proofs.Refusals.{below-same}
+use Rattle.file_mod_lines.proofs.Lines.{line-index, line-total, below-stops, below-goes-on}
 
 -- a line's four operands, each refused alike
 four-tests : (test : ℕ → Bool) (number returned : ℕ) → firstBelow 4 (λ j. unless (test j) number returned) ≡ unless (all 4 test) number returned

@@ -1,36 +1,17 @@
 -- What the code's judgement of a line's layout answers, case by case.
 use Prim.Native.Nat.{ℕ, _+_, _*_, _<_, _≤_}
 use mathlib.Core.Path.{_≡_, refl}
-use mathlib.Core.Bool.{Bool, true, false, not}
+use mathlib.Core.Bool.{true, false, not}
 use mathlib.Core.List.{List}
 use native.Mathlib.Omega.{arith}
 use lib.Dec.{eqb, leb, ltb}
-use borrow.Author.Tests.{eq-eqb, ne-eqb, lt-ltb, le-ltb, le-leb, lt-leb, not-true, not-false}
+use borrow.Author.Tests.{eq-eqb, ne-eqb, lt-ltb, le-ltb}
 use Rattle.logic.specs.Test.{_and_, _or_}
+use Rattle.logic.proofs.Judged.{and-false, and-yes, or-no, or-yes}
 use Rattle.fields.specs.Field.{isFieldAt}
 use Rattle.fields.specs.Line.{isLineAt}
 use Rattle.file_mod_lines.specs.Layout.{pairLaid}
 use Rattle.file_mod_lines.proofs.Header.{field-of-line}
-
-pub and-false : (a : Bool) → a and false ≡ false
-unfolding _and_
-and-false true = refl
-and-false false = refl
-
-pub and-yes : (a : Bool) → a and true ≡ a
-unfolding _and_
-and-yes true = refl
-and-yes false = refl
-
-pub or-no : (a : Bool) → a or false ≡ a
-unfolding _or_
-or-no true = refl
-or-no false = refl
-
-pub or-yes : (a : Bool) → a or true ≡ true
-unfolding _or_
-or-yes true = refl
-or-yes false = refl
 
 module _ (slots most part k : ℕ) where
   pub pair-far : slots ≤ k → pairLaid slots most part k ≡ false
@@ -52,40 +33,3 @@ pub pair-of-line : (l : List ℕ) (at : ℕ) → isLineAt l at 14 ≡ true → (
     → (isFieldAt l place ≡ true) × (isFieldAt l (place + 6) ≡ true)
 pair-of-line l at right k place low e =
     (field-of-line l at 14 right k place (omega arith) e, field-of-line l at 14 right (k + 1) (place + 6) low (omega arith))
-
--- a chain of judgements r of a: it stops at the first that fails, and else goes on
-module _ (r a rest : Bool) (e : r ≡ a) where
-  pub chain-stops : not r ≡ true → a and rest ≡ false
-  unfolding _and_
-  chain-stops h = rw (← e, not-true r h)
-
-  pub chain-goes-on : not r ≡ false → a and rest ≡ rest
-  unfolding _and_
-  chain-goes-on h = rw (← e, not-false r h)
-
--- the same of a number r, read of x
-module _ (r x y : ℕ) (rest : Bool) (e : r ≡ x) where
-  pub equal-stops : (r ≡ y → ⊥) → eqb x y and rest ≡ false
-  unfolding _and_
-  equal-stops d = rw (← e, ne-eqb r y d)
-
-  pub equal-goes-on : r ≡ y → eqb x y and rest ≡ rest
-  unfolding _and_
-  equal-goes-on h = rw (← e, eq-eqb r y h)
-
-  pub most-stops : y < r → leb x y and rest ≡ false
-  unfolding _and_
-  most-stops h = rw (← e, lt-leb r y h)
-
-  pub most-goes-on : r ≤ y → leb x y and rest ≡ rest
-  unfolding _and_
-  most-goes-on h = rw (← e, le-leb r y h)
-
-module _ (x y : ℕ) (rest : Bool) where
-  pub low-stops : y ≤ x → ltb x y and rest ≡ false
-  unfolding _and_
-  low-stops h = rw (le-ltb x y h)
-
-  pub low-goes-on : x < y → ltb x y and rest ≡ rest
-  unfolding _and_
-  low-goes-on h = rw (lt-ltb x y h)

@@ -1,5 +1,5 @@
 -- The lines after the first: line k of them is that of processor k / C and slot k % C, and what its check answers.
-use Prim.Native.Nat.{ℕ, zero, suc, _+_, _*_, _/_, _%_, _<_, _≤_}
+use Prim.Native.Nat.{ℕ, _+_, _*_, _/_, _%_, _<_, _≤_}
 use mathlib.Core.Path.{_≡_, refl, sym, ap, _∙_}
 use mathlib.Core.Bool.{Bool, true, false}
 use mathlib.Core.List.{List}
@@ -23,7 +23,7 @@ use Rattle.fields.proofs.Lines.{field-right, field-wrong}
 use Rattle.file_mod_lines.specs.Answer.{Sized}
 use Rattle.instruction.specs.Sender.{senderLaid}
 use Rattle.file_mod_lines.specs.Layout.{pairLaid, operandsAt, lineAt}
-use Rattle.file_mod_lines.proofs.Judged.{and-false}
+use Rattle.logic.proofs.Judged.{and-false}
 
 pub all-4 : (f : ℕ → Bool) → all 4 f ≡ f 0 and f 1 and f 2 and f 3
 unfolding all _and_
@@ -143,8 +143,3 @@ module _ (l : List ℕ) (p c lines : ℕ) (sized : Sized l p c) (total : lines �
   pub no-surplus : length l ≤ 85 * (lines + 1) → modSurplus l ≡ pass
   unfolding modSurplus unless
   no-surplus h = rw (all-lines, le-leb (length l) (85 * (lines + 1)) h)
-
-pub below-same : (count : ℕ) (f g : ℕ → Check) → ((k : ℕ) → k < count → f k ≡ g k) → firstBelow count f ≡ firstBelow count g
-unfolding firstBelow
-below-same zero f g h = refl
-below-same (suc count) f g h = rw (below-same count f g (λ k l. h k (omega arith)), h count (omega arith))

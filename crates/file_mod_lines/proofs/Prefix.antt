@@ -12,13 +12,14 @@ use borrow.Author.Tests.{leb-true, leb-false, lt-leb}
 use Rattle.logic.specs.Test.{all}
 use Rattle.fields.specs.Field.{numberAt}
 use Rattle.fields.specs.Line.{isLineAt}
-use Rattle.fields.proofs.Taken.{all-same, number-take, line-take}
+use Rattle.logic.proofs.Tests.{all-same}
+use Rattle.fields.proofs.Taken.{number-take, line-take}
 use Rattle.model.specs.Refusal.{Check, pass, fail, first, unless}
 use Rattle.model.specs.Network.{Network}
 use Rattle.model.specs.ModuleFile.{modField, modProcessors, modSlots, modIndex, modHeader, modSlot, eachLine, modSurplus, modCheck}
-use Rattle.model.proofs.Refusals.{first-second, first-stays}
+use Rattle.model.proofs.Refusals.{first-second, first-stays, below-same}
 use Rattle.file_mod_lines.specs.Layout.{lineAt, operandsAt}
-use Rattle.file_mod_lines.proofs.Lines.{line-judged, line-index, below-same}
+use Rattle.file_mod_lines.proofs.Lines.{line-judged, line-index}
 use Rattle.file_mod_lines.proofs.Stages.{header-sized}
 
 module _ (l : List ℕ) (long : ℕ) (enough : 348246 ≤ long) where

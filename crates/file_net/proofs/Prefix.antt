@@ -1,5 +1,5 @@
 -- A NET has at most 299,081 bytes, and one byte more is surplus: what follows that one changes no answer.
-use Prim.Native.Nat.{ℕ, zero, suc, _+_, _*_, _<_, _≤_}
+use Prim.Native.Nat.{ℕ, suc, _+_, _*_, _<_, _≤_}
 use mathlib.Core.Path.{_≡_, refl, sym, _∙_, ap}
 use mathlib.Core.Bool.{Bool, true, false}
 use mathlib.Core.List.{List}
@@ -7,26 +7,16 @@ use native.Mathlib.Omega.{arith}
 use lib.Dec.{eqb, leb}
 use lib.ListN.{length, take, length-take}
 use borrow.Author.Tests.{le-leb, lt-leb, leb-true, leb-false}
-use Rattle.logic.specs.Test.{all}
 use Rattle.fields.specs.Line.{isLineAt}
+use Rattle.logic.proofs.Tests.{all-same}
 use Rattle.fields.proofs.Taken.{number-take, line-take}
 use Rattle.model.specs.Refusal.{Check, pass, fail, firstBelow}
 use Rattle.gates.specs.Translation.{isTranslation}
 use Rattle.model.specs.Network.{Feeds, Chain, one, more}
-use Rattle.model.proofs.Refusals.{first-stays}
+use Rattle.model.proofs.Refusals.{first-stays, below-same}
 use Rattle.model.proofs.Chains.{chains-pass, chains-acyclic, chains-fail, chains-smallest}
 use Rattle.file_net.proofs.Joined.{size-small}
 use Rattle.model.specs.Netlist.{netLine, netField, netSize, tenZeros, netHeader, inputLayout, gateLayout, sourceRight, sourcesRight, netSignal, netSurplus, network, netChains, netCheck}
-
-all-same : (n : ℕ) (p q : ℕ → Bool) → ((k : ℕ) → k < n → p k ≡ q k) → all n p ≡ all n q
-unfolding all
-all-same zero p q h = refl
-all-same (suc n) p q h = rw (all-same n p q (λ k l. h k (omega arith)), h n (omega arith))
-
-below-same : (n : ℕ) (f g : ℕ → Check) → ((k : ℕ) → k < n → f k ≡ g k) → firstBelow n f ≡ firstBelow n g
-unfolding firstBelow
-below-same zero f g h = refl
-below-same (suc n) f g h = rw (below-same n f g (λ k l. h k (omega arith)), h n (omega arith))
 
 module _ (net : List ℕ) where
   abbrev taken : List ℕ
@@ -41,7 +31,7 @@ module _ (net : List ℕ) where
 
     zeros-same : tenZeros taken s ≡ tenZeros net s
     unfolding tenZeros
-    zeros-same = all-same 10 _ _ (λ k l. ap (λ (x : ℕ). eqb x 0) (field-same (2 + k) (omega arith)))
+    zeros-same = all-same _ _ 10 (λ k l. ap (λ (x : ℕ). eqb x 0) (field-same (2 + k) (omega arith)))
 
   size-same : netSize taken ≡ netSize net
   size-same = field-same 0 (omega arith) 1 (omega arith)
@@ -64,9 +54,9 @@ module _ (net : List ℕ) where
           field-same s h 1 (omega arith),
           field-same s h 2 (omega arith),
           zeros-same s h,
-          all-same 5 (λ k. isTranslation (netField taken s (3 + k))) (λ k. isTranslation (netField net s (3 + k)))
+          all-same (λ k. isTranslation (netField taken s (3 + k))) (λ k. isTranslation (netField net s (3 + k))) 5
               (λ k l. ap isTranslation (field-same s h (3 + k) (omega arith))),
-          all-same 4 (sourceRight taken s) (sourceRight net s) (λ j l. source-same s j h l),
+          all-same (sourceRight taken s) (sourceRight net s) 4 (λ j l. source-same s j h l),
         )
 
     signals-same : firstBelow (netSize taken) (λ k. netSignal taken (suc k)) ≡ firstBelow (netSize net) (λ k. netSignal net (suc k))

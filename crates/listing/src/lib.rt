@@ -74,7 +74,7 @@ fn write_changes(time: u16, panel: &[u8], memory: &[u8], shown: &mut [u8], out: 
     ensures { λ _. ⌜ now (out .exit) ≡ sets (now (out .entry)) 0 (changeLines (signalsIn (now (panel .entry))) time (valueHeld (now (panel .entry)) (now (memory .entry))) (λ s. getD (now (shown .entry)) s 0)) ⌝ }
     ensures { λ _. ⌜ now (shown .exit) ≡ shownWith (signalsIn (now (panel .entry))) (valueHeld (now (panel .entry)) (now (memory .entry))) (λ s. getD (now (shown .entry)) s 0) ⌝ }
 {
-    let signals = buffers_tables::word_at(panel, 0);
+    let signals = words::word_at(panel, 0);
     let mut at: usize = 0;
     let mut s: u16 = 0;
     while s < signals {

@@ -1,4 +1,5 @@
 pub mod Tests
+pub mod Judged
 pub mod Any
 pub mod Totals
 pub mod Pigeon

@@ -134,3 +134,9 @@ module _ (p : ℕ → Bool) where
   -- a count that has come to its end
   pub all-ends : (n k : ℕ) → k ≤ n → n ≤ k → all k p ≡ true → all n p ≡ true
   all-ends n k low high h = let e : k ≡ n = omega arith in subst (λ (m : ℕ). all m p ≡ true) e h
+
+-- tests that agree below n
+pub all-same : (p q : ℕ → Bool) (n : ℕ) → ((k : ℕ) → k < n → p k ≡ q k) → all n p ≡ all n q
+unfolding all
+all-same p q zero h = refl
+all-same p q (suc n) h = rw (all-same p q n (λ k l. h k (omega arith)), h n (omega arith))

@@ -65,7 +65,7 @@ pub fn value_of(panel: &[u8], memory: &[u8], signal: u16) -> u8
     ensures { λ r. ⌜ r ≡ memoryOf (now (memory .entry)) .earlierLocal (processorIn (now (panel .entry)) signal) (slotIn (now (panel .entry)) signal) ⌝ }
 {
     let at = 10 * (signal as usize);
-    let processor = buffers_tables::widened(panel[at + 8]) as usize;
+    let processor = words::widened(panel[at + 8]) as usize;
     buffers_memory::fetch(memory, processor, Operand::LocalEarlier(panel[at + 9]))
 }
 
@@ -76,9 +76,9 @@ pub fn run(panel: &[u8], program: &[u8], memory: &mut [u8], cycles: Cycle) -> Ra
     requires { ⌜ MemoryBytes (now memory) ⌝ }
     ensures { λ r. ⌜ (r .done .0 ≡ runIn (now (panel .entry)) (now (program .entry)) (cycles .0) (memoryOf (now (memory .entry))) .count) × (r .stopped ≡ runIn (now (panel .entry)) (now (program .entry)) (cycles .0) (memoryOf (now (memory .entry))) .stopped) × (now (memory .exit) ≡ withMemory (processorsIn (now (panel .entry))) (slotsIn (now (panel .entry))) (runIn (now (panel .entry)) (now (program .entry)) (cycles .0) (memoryOf (now (memory .entry))) .state) (now (memory .entry))) ⌝ }
 {
-    let processors = buffers_tables::widened(panel[2]) as usize;
-    let slots = buffers_tables::word_at(panel, 3);
-    let signal = buffers_tables::word_at(panel, 7);
+    let processors = words::widened(panel[2]) as usize;
+    let slots = words::word_at(panel, 3);
+    let signal = words::word_at(panel, 7);
     let mask = panel[9];
     let k = cycles.0;
     let mut done: u16 = 0;

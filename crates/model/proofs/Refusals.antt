@@ -107,3 +107,9 @@ below-first (suc n) f {number} {returned} r =
     first-stays (firstBelow n f) (f n)
     (below-first n f (record { at = r .at; low = l; fails = r .fails; before = r .before })))
     (eq-or-lt-of-le {n = r .at} {m = n} (omega (arith, r .low)))
+
+-- checks that agree below n
+pub below-same : (n : ℕ) (f g : ℕ → Check) → ((k : ℕ) → k < n → f k ≡ g k) → firstBelow n f ≡ firstBelow n g
+unfolding firstBelow
+below-same zero f g h = refl
+below-same (suc n) f g h = rw (below-same n f g (λ k l. h k (omega arith)), h n (omega arith))

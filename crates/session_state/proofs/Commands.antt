@@ -4,9 +4,10 @@ use mathlib.Core.Path.{_≡_, refl, sym, _∙_, ap}
 use mathlib.Core.Bool.{Bool, true, false, not}
 use mathlib.Core.List.{List}
 use lib.Dec.{eqb, leb}
-use borrow.Author.Tests.{leb-true, le-leb, lt-leb, not-true, not-false}
+use borrow.Author.Tests.{leb-true, le-leb, lt-leb}
 use Rattle.logic.specs.Test.{_and_}
 use Rattle.logic.proofs.Tests.{and-left, and-right}
+use Rattle.logic.proofs.Judged.{fails, passes}
 use Rattle.model.specs.Refusal.{Check, pass, fail, first, unless}
 use Rattle.model.specs.Network.{isSignal}
 use Rattle.model.specs.Machine.{Memory}
@@ -33,14 +34,6 @@ module _ (panel : List ℕ) (s : ℕ) where
   pub input-signal : inputIn panel s ≡ true → signalIn panel s ≡ true
   unfolding inputIn
   input-signal e = and-left _ _ e
-
--- what a judgement r of a tells
-module _ (r a : Bool) (e : r ≡ a) where
-  pub fails : not r ≡ true → a ≡ false
-  fails h = rw (← e) (not-true r h)
-
-  pub passes : not r ≡ false → a ≡ true
-  passes h = rw (← e) (not-false r h)
 
 module _ (panel : List ℕ) (s : ℕ) (r : Bool) (e : r ≡ signalIn panel s) where
   pub input-stops : not r ≡ true → false ≡ inputIn panel s

@@ -55,9 +55,9 @@ pub fn decode(panel: &[u8]) -> Session
     let mut hand = [0u8; 4097];
     take_hand(panel, &mut hand);
     Session {
-        finished: Cycle(buffers_tables::word_of(panel[5], panel[6])),
+        finished: Cycle(words::word_of(panel[5], panel[6])),
         watch: Watch {
-            signal: buffers_tables::word_of(panel[7], panel[8]),
+            signal: words::word_of(panel[7], panel[8]),
             mask: panel[9],
         },
         hand: hand,
@@ -111,7 +111,7 @@ fn is_signal(panel: &[u8], signal: u32) -> bool
     if signal == 0 {
         return false;
     }
-    signal <= buffers_tables::word_at(panel, 0) as u32
+    signal <= words::word_at(panel, 0) as u32
 }
 
 // An input of the network: "setting a gate" is refused.

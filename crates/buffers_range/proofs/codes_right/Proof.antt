@@ -1,7 +1,7 @@
--- The kind decides: zeros for an input; for a gate first the function, then the translations (`stops`, `goes-on`).
+-- The kind decides: zeros for an input; for a gate first the function, then the translations (`chain-stops`, `chain-goes-on`).
 use mathlib.Core.Path.{sym, _∙_}
 use borrow.Author.Tests.{eq-eqb, ne-eqb}
-use Rattle.buffers_range.proofs.Judged.{stops, goes-on}
+use Rattle.logic.proofs.Judged.{chain-stops, chain-goes-on}
 use Rattle.buffers_range.specs.Ranges.{codesRanged}
 use borrow.Author.Needs.{needs}
 use Rattle.buffers_range.proofs.codes_right.Statement.{statement}
@@ -20,7 +20,7 @@ returns-2 c =
     let if1 = c .before .before .before .before .if1 in
     let is-function = c .before .is-function in
     let if2 = c .if2 in
-    rw (ne-eqb _ 1 (if1 .left)) (sym (stops _ _ _ (is-function .ensures ∙ (cc)) (if2 .taken)))
+    rw (ne-eqb _ 1 (if1 .left)) (sym (chain-stops _ _ _ (is-function .ensures ∙ (cc)) (if2 .taken)))
 
 returns-3 : tie.Need-returns-3
 unfolding codesRanged
@@ -29,7 +29,7 @@ returns-3 c =
     let is-function = c .before .before .is-function in
     let if2 = c .before .if2 in
     let all-translations = c .all-translations in
-    rw (ne-eqb _ 1 (if1 .left)) (all-translations .ensures ∙ sym (goes-on _ _ _ (is-function .ensures ∙ (cc)) (if2 .left)))
+    rw (ne-eqb _ 1 (if1 .left)) (all-translations .ensures ∙ sym (chain-goes-on _ _ _ (is-function .ensures ∙ (cc)) (if2 .left)))
 
 pub codes-right-spec : {M : Type 1} → statement M
 codes-right-spec =

@@ -1,6 +1,6 @@
--- The five numbers in the order of `headRanged`: the first out of range decides (`stops`), else the last (`goes-on`).
+-- The five numbers in the order of `headRanged`: the first out of range decides (`chain-stops`), else the last (`chain-goes-on`).
 use mathlib.Core.Path.{sym, _∙_}
-use Rattle.buffers_range.proofs.Judged.{stops, goes-on}
+use Rattle.logic.proofs.Judged.{chain-stops, chain-goes-on}
 use Rattle.buffers_range.specs.Ranges.{headRanged}
 use borrow.Author.Needs.{needs}
 use Rattle.buffers_range.proofs.head_right.Statement.{statement}
@@ -11,7 +11,7 @@ unfolding headRanged
 returns c =
     let counted = c .before .counted in
     let if1 = c .if1 in
-    sym (stops _ _ _ (counted .ensures ∙ (cc)) (if1 .taken))
+    sym (chain-stops _ _ _ (counted .ensures ∙ (cc)) (if1 .taken))
 
 returns-2 : tie.Need-returns-2
 unfolding headRanged
@@ -20,7 +20,7 @@ returns-2 c =
     let if1 = c .before .before .before .before .if1 in
     let counted2 = c .before .counted2 in
     let if2 = c .if2 in
-    sym (goes-on _ _ _ (counted .ensures ∙ (cc)) (if1 .left) ∙ stops _ _ _ (counted2 .ensures ∙ (cc)) (if2 .taken))
+    sym (chain-goes-on _ _ _ (counted .ensures ∙ (cc)) (if1 .left) ∙ chain-stops _ _ _ (counted2 .ensures ∙ (cc)) (if2 .taken))
 
 returns-3 : tie.Need-returns-3
 unfolding headRanged
@@ -31,7 +31,7 @@ returns-3 c =
     let if2 = c .before .before .before .if2 in
     let counted3 = c .before .counted3 in
     let if3 = c .if3 in
-    sym (goes-on _ _ _ (counted .ensures ∙ (cc)) (if1 .left) ∙ goes-on _ _ _ (counted2 .ensures ∙ (cc)) (if2 .left) ∙ stops _ _ _ (counted3 .ensures ∙ (cc)) (if3 .taken))
+    sym (chain-goes-on _ _ _ (counted .ensures ∙ (cc)) (if1 .left) ∙ chain-goes-on _ _ _ (counted2 .ensures ∙ (cc)) (if2 .left) ∙ chain-stops _ _ _ (counted3 .ensures ∙ (cc)) (if3 .taken))
 
 returns-4 : tie.Need-returns-4
 unfolding headRanged
@@ -44,7 +44,7 @@ returns-4 c =
     let if3 = c .before .before .before .if3 in
     let counted4 = c .before .counted4 in
     let if4 = c .if4 in
-    sym (goes-on _ _ _ (counted .ensures ∙ (cc)) (if1 .left) ∙ goes-on _ _ _ (counted2 .ensures ∙ (cc)) (if2 .left) ∙ goes-on _ _ _ (counted3 .ensures ∙ (cc)) (if3 .left) ∙ stops _ _ _ (counted4 .ensures ∙ (cc)) (if4 .taken))
+    sym (chain-goes-on _ _ _ (counted .ensures ∙ (cc)) (if1 .left) ∙ chain-goes-on _ _ _ (counted2 .ensures ∙ (cc)) (if2 .left) ∙ chain-goes-on _ _ _ (counted3 .ensures ∙ (cc)) (if3 .left) ∙ chain-stops _ _ _ (counted4 .ensures ∙ (cc)) (if4 .taken))
 
 returns-5 : tie.Need-returns-5
 unfolding headRanged
@@ -57,7 +57,7 @@ returns-5 c =
     let if3 = c .before .before .before .before .if3 in
     let counted4 = c .before .before .counted4 in
     let if4 = c .before .if4 in
-    sym (goes-on _ _ _ (counted .ensures ∙ (cc)) (if1 .left) ∙ goes-on _ _ _ (counted2 .ensures ∙ (cc)) (if2 .left) ∙ goes-on _ _ _ (counted3 .ensures ∙ (cc)) (if3 .left) ∙ goes-on _ _ _ (counted4 .ensures ∙ (cc)) (if4 .left))
+    sym (chain-goes-on _ _ _ (counted .ensures ∙ (cc)) (if1 .left) ∙ chain-goes-on _ _ _ (counted2 .ensures ∙ (cc)) (if2 .left) ∙ chain-goes-on _ _ _ (counted3 .ensures ∙ (cc)) (if3 .left) ∙ chain-goes-on _ _ _ (counted4 .ensures ∙ (cc)) (if4 .left))
 
 pub head-right-spec : {M : Type 1} → statement M
 head-right-spec =

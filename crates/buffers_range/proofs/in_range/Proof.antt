@@ -1,6 +1,6 @@
 -- Panel, program, memory: the first out of range decides. A panel in range bounds P and C, as the other two require.
 use mathlib.Core.Path.{sym, _∙_}
-use Rattle.buffers_range.proofs.Judged.{stops, goes-on, passes}
+use Rattle.logic.proofs.Judged.{chain-stops, chain-goes-on, passes}
 use Rattle.buffers_range.proofs.Numbers.{ranged-panel}
 use Rattle.buffers_range.specs.Ranges.{ranged}
 use borrow.Author.Needs.{needs}
@@ -12,7 +12,7 @@ unfolding ranged
 returns c =
     let panel-right = c .before .panel-right in
     let if1 = c .if1 in
-    sym (stops _ _ _ (panel-right .ensures) (if1 .taken))
+    sym (chain-stops _ _ _ (panel-right .ensures) (if1 .taken))
 
 program-right-requires : tie.Need-program-right-requires
 program-right-requires c κs =
@@ -28,7 +28,7 @@ returns-2 c =
     let if1 = c .before .before .if1 in
     let program-right = c .before .program-right in
     let if2 = c .if2 in
-    sym (goes-on _ _ _ (panel-right .ensures) (if1 .left) ∙ stops _ _ _ (program-right .ensures) (if2 .taken))
+    sym (chain-goes-on _ _ _ (panel-right .ensures) (if1 .left) ∙ chain-stops _ _ _ (program-right .ensures) (if2 .taken))
 
 memory-right-requires : tie.Need-memory-right-requires
 memory-right-requires c κs =
@@ -45,7 +45,7 @@ returns-3 c =
     let program-right = c .before .before .program-right in
     let if2 = c .before .if2 in
     let memory-right = c .memory-right in
-    memory-right .ensures ∙ sym (goes-on _ _ _ (panel-right .ensures) (if1 .left) ∙ goes-on _ _ _ (program-right .ensures) (if2 .left))
+    memory-right .ensures ∙ sym (chain-goes-on _ _ _ (panel-right .ensures) (if1 .left) ∙ chain-goes-on _ _ _ (program-right .ensures) (if2 .left))
 
 pub in-range-spec : {M : Type 1} → statement M
 in-range-spec =

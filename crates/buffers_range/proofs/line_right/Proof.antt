@@ -1,7 +1,7 @@
 -- `lineAt` in its order: the signal, then operands and send by the sum of their faults (`faults-stop`), then the sender.
 use mathlib.Core.Path.{sym, _∙_, ap₂}
 use Rattle.instruction.specs.Sender.{senderLaid}
-use Rattle.buffers_range.proofs.Judged.{most-stops, most-goes-on}
+use Rattle.logic.proofs.Judged.{most-stops, most-goes-on}
 use Rattle.buffers_range.proofs.Faults.{faults-stop, faults-go-on}
 use Rattle.buffers_range.specs.Order.{lineAt}
 use borrow.Author.Needs.{needs}

@@ -5,7 +5,7 @@ use mathlib.Core.Bool.{true}
 use Rattle.logic.specs.Test.{all}
 use Rattle.logic.proofs.Tests.{all-more}
 use Rattle.buffers_range.specs.Ranges.{signalRanged, panelRanged}
-use Rattle.buffers_range.proofs.Judged.{stops, fails, passes}
+use Rattle.logic.proofs.Judged.{chain-stops, fails, passes}
 use Rattle.buffers_range.proofs.Numbers.{head-numbers}
 use Rattle.buffers_range.proofs.Signals.{signals-stop, signals-end}
 use borrow.Author.Needs.{needs}
@@ -24,7 +24,7 @@ unfolding panelRanged
 returns c =
     let head-right = c .before .head-right in
     let if1 = c .if1 in
-    sym (stops _ _ _ (head-right .ensures) (if1 .taken))
+    sym (chain-stops _ _ _ (head-right .ensures) (if1 .taken))
 
 loop-holds : tie.Need-loop-holds Inv-loop μ-loop
 unfolding all

@@ -1,6 +1,6 @@
--- The values first: one out of range decides (`stops`); else the zeros after them decide (`goes-on`).
+-- The values first: one out of range decides (`chain-stops`); else the zeros after them decide (`chain-goes-on`).
 use mathlib.Core.Path.{sym, _∙_}
-use Rattle.buffers_range.proofs.Judged.{stops, goes-on}
+use Rattle.logic.proofs.Judged.{chain-stops, chain-goes-on}
 use Rattle.buffers_range.specs.Order.{partAt}
 use borrow.Author.Needs.{needs}
 use Rattle.buffers_range.proofs.part_right.Statement.{statement}
@@ -11,7 +11,7 @@ unfolding partAt
 returns c =
     let all-values = c .before .all-values in
     let if1 = c .if1 in
-    sym (stops _ _ _ (all-values .ensures) (if1 .taken))
+    sym (chain-stops _ _ _ (all-values .ensures) (if1 .taken))
 
 returns-2 : tie.Need-returns-2
 unfolding partAt
@@ -19,7 +19,7 @@ returns-2 c =
     let all-values = c .before .before .all-values in
     let if1 = c .before .if1 in
     let all-zero = c .all-zero in
-    all-zero .ensures ∙ sym (goes-on _ _ _ (all-values .ensures) (if1 .left))
+    all-zero .ensures ∙ sym (chain-goes-on _ _ _ (all-values .ensures) (if1 .left))
 
 pub part-right-spec : {M : Type 1} → statement M
 part-right-spec =

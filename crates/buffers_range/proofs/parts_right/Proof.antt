@@ -5,7 +5,7 @@ use mathlib.Core.Bool.{true}
 use Rattle.logic.specs.Test.{all}
 use Rattle.logic.proofs.Tests.{all-more, all-fails, all-ends}
 use Rattle.buffers_range.specs.Order.{valuesIn, partAt, partsAt}
-use Rattle.buffers_range.proofs.Judged.{fails, passes}
+use Rattle.logic.proofs.Judged.{fails, passes}
 use borrow.Author.Needs.{needs}
 use native.Mathlib.Omega.{arith}
 use Rattle.buffers_range.proofs.parts_right.Statement.{statement}

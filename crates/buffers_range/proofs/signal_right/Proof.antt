@@ -1,7 +1,7 @@
 -- Kind, codes, value and place in the order of `signalRanged`: the first out of range decides, else the last.
 use mathlib.Core.Path.{sym, _∙_}
 use borrow.Author.Tests.{le-leb, lt-leb, le-ltb, lt-ltb}
-use Rattle.buffers_range.proofs.Judged.{stops, goes-on, no, yes}
+use Rattle.logic.proofs.Judged.{chain-stops, chain-goes-on, no, yes}
 use Rattle.buffers_range.specs.Ranges.{signalRanged}
 use borrow.Author.Needs.{needs}
 use Rattle.buffers_range.proofs.signal_right.Statement.{statement}
@@ -12,7 +12,7 @@ unfolding signalRanged
 returns c =
     let counted = c .before .counted in
     let if1 = c .if1 in
-    sym (stops _ _ _ (counted .ensures ∙ (cc)) (if1 .taken))
+    sym (chain-stops _ _ _ (counted .ensures ∙ (cc)) (if1 .taken))
 
 returns-2 : tie.Need-returns-2
 unfolding signalRanged
@@ -21,7 +21,7 @@ returns-2 c =
     let if1 = c .before .before .if1 in
     let codes-right = c .before .codes-right in
     let if2 = c .if2 in
-    sym (goes-on _ _ _ (counted .ensures ∙ (cc)) (if1 .left) ∙ stops _ _ _ (codes-right .ensures ∙ (cc)) (if2 .taken))
+    sym (chain-goes-on _ _ _ (counted .ensures ∙ (cc)) (if1 .left) ∙ chain-stops _ _ _ (codes-right .ensures ∙ (cc)) (if2 .taken))
 
 returns-3 : tie.Need-returns-3
 unfolding signalRanged
@@ -31,7 +31,7 @@ returns-3 c =
     let codes-right = c .before .before .before .codes-right in
     let if2 = c .before .before .if2 in
     let if3 = c .if3 in
-    sym (goes-on _ _ _ (counted .ensures ∙ (cc)) (if1 .left) ∙ goes-on _ _ _ (codes-right .ensures ∙ (cc)) (if2 .left) ∙ no _ _ (lt-leb _ _ (if3 .taken)))
+    sym (chain-goes-on _ _ _ (counted .ensures ∙ (cc)) (if1 .left) ∙ chain-goes-on _ _ _ (codes-right .ensures ∙ (cc)) (if2 .left) ∙ no _ _ (lt-leb _ _ (if3 .taken)))
 
 returns-4 : tie.Need-returns-4
 unfolding signalRanged
@@ -42,7 +42,7 @@ returns-4 c =
     let if2 = c .before .before .before .before .before .if2 in
     let if3 = c .before .before .before .if3 in
     let if4 = c .if4 in
-    sym (goes-on _ _ _ (counted .ensures ∙ (cc)) (if1 .left) ∙ goes-on _ _ _ (codes-right .ensures ∙ (cc)) (if2 .left) ∙ yes _ _ (le-leb _ _ (if3 .left)) ∙ no _ _ (le-ltb _ _ (if4 .taken)))
+    sym (chain-goes-on _ _ _ (counted .ensures ∙ (cc)) (if1 .left) ∙ chain-goes-on _ _ _ (codes-right .ensures ∙ (cc)) (if2 .left) ∙ yes _ _ (le-leb _ _ (if3 .left)) ∙ no _ _ (le-ltb _ _ (if4 .taken)))
 
 returns-5 : tie.Need-returns-5
 unfolding signalRanged
@@ -53,7 +53,7 @@ returns-5 c =
     let if2 = c .before .before .before .before .before .before .before .before .if2 in
     let if3 = c .before .before .before .before .before .before .if3 in
     let if4 = c .before .before .before .if4 in
-    (cc) ∙ sym (goes-on _ _ _ (counted .ensures ∙ (cc)) (if1 .left) ∙ goes-on _ _ _ (codes-right .ensures ∙ (cc)) (if2 .left) ∙ yes _ _ (le-leb _ _ (if3 .left)) ∙ yes _ _ (lt-ltb _ _ (if4 .left)))
+    (cc) ∙ sym (chain-goes-on _ _ _ (counted .ensures ∙ (cc)) (if1 .left) ∙ chain-goes-on _ _ _ (codes-right .ensures ∙ (cc)) (if2 .left) ∙ yes _ _ (le-leb _ _ (if3 .left)) ∙ yes _ _ (lt-ltb _ _ (if4 .left)))
 
 pub signal-right-spec : {M : Type 1} → statement M
 signal-right-spec =

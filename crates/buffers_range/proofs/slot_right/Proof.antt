@@ -4,7 +4,7 @@ use mathlib.Core.Path.{_≡_, sym, _∙_}
 use mathlib.Core.Bool.{true}
 use Rattle.logic.specs.Test.{all}
 use Rattle.logic.proofs.Tests.{all-more, all-fails, all-ends}
-use Rattle.buffers_range.proofs.Judged.{no, yes, fails, passes}
+use Rattle.logic.proofs.Judged.{no, yes, fails, passes}
 use Rattle.buffers_range.specs.Order.{lineAt, slotAt}
 use borrow.Author.Needs.{needs}
 use native.Mathlib.Omega.{arith}

@@ -1,7 +1,7 @@
 -- The signal, the five pairs (`pair-there`) and the sender are each read where the line has them.
 use mathlib.Core.Path.{_∙_, ap}
 use Prim.Native.Nat.{_+_, _*_}
-use Rattle.buffers_tables.specs.Panel.{word}
+use Rattle.words.specs.Word.{word}
 use Rattle.buffers_tables.specs.Program.{lineIn}
 use Rattle.buffers_tables.proofs.Lines.{pair-there}
 use native.Mathlib.Omega.{arith}

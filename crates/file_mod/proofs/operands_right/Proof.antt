@@ -2,7 +2,7 @@
 use mathlib.Core.Path.{sym, _∙_, ap}
 use native.Mathlib.Omega.{arith}
 use Rattle.instruction.specs.declared.Instruction.{Instruction}
-use Rattle.file_mod_lines.proofs.Judged.{chain-stops, chain-goes-on}
+use Rattle.logic.proofs.Judged.{chain-stops, chain-goes-on}
 use Rattle.file_mod_lines.proofs.Lines.{all-4}
 use borrow.Author.Needs.{needs}
 use Rattle.file_mod.proofs.operands_right.Statement.{statement}

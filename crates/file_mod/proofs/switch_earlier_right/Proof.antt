@@ -1,6 +1,6 @@
 -- The kind, then the send into k, in the order of `reads-switch-earlier`: the first that is wrong decides.
 use mathlib.Core.Path.{refl, sym, _∙_}
-use Rattle.file_mod_lines.proofs.Judged.{equal-stops, equal-goes-on}
+use Rattle.logic.proofs.Judged.{equal-stops, equal-goes-on}
 use Rattle.file_mod.proofs.Sources.{reads-switch-earlier}
 use borrow.Author.Needs.{needs}
 use Rattle.file_mod.proofs.switch_earlier_right.Statement.{statement}

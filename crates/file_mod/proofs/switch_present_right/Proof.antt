@@ -1,6 +1,6 @@
 -- k < i, then the send into k, of the part that the kind wants, in the order of `reads-switch-present`.
 use mathlib.Core.Path.{sym, _∙_}
-use Rattle.file_mod_lines.proofs.Judged.{low-stops, low-goes-on}
+use Rattle.logic.proofs.Judged.{low-stops, low-goes-on}
 use Rattle.file_mod.proofs.Sources.{reads-switch-present}
 use borrow.Author.Needs.{needs}
 use Rattle.file_mod.proofs.switch_present_right.Statement.{statement}

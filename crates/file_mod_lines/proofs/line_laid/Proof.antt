@@ -5,7 +5,8 @@ use native.Mathlib.Omega.{arith}
 use Rattle.model.proofs.RightLine.{line-within}
 use Rattle.file_mod_lines.specs.Layout.{lineAt}
 use Rattle.file_mod_lines.proofs.Header.{field-of-line}
-use Rattle.file_mod_lines.proofs.Judged.{pair-of-line, chain-stops, chain-goes-on, equal-stops, equal-goes-on, most-stops, most-goes-on}
+use Rattle.logic.proofs.Judged.{chain-stops, chain-goes-on, equal-stops, equal-goes-on, most-stops, most-goes-on}
+use Rattle.file_mod_lines.proofs.Judged.{pair-of-line}
 use borrow.Author.Needs.{needs}
 use Rattle.file_mod_lines.proofs.line_laid.Statement.{statement}
 use Rattle.file_mod_lines.proofs.line_laid.Tie as tie

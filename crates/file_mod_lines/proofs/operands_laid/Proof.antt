@@ -4,7 +4,8 @@ use mathlib.Core.Path.{sym, _∙_}
 use native.Mathlib.Omega.{arith}
 use Rattle.model.proofs.RightLine.{line-within}
 use Rattle.file_mod_lines.specs.Layout.{operandsAt}
-use Rattle.file_mod_lines.proofs.Judged.{pair-of-line, chain-stops, chain-goes-on}
+use Rattle.logic.proofs.Judged.{chain-stops, chain-goes-on}
+use Rattle.file_mod_lines.proofs.Judged.{pair-of-line}
 use Rattle.file_mod_lines.proofs.operands_laid.Statement.{statement}
 use Rattle.file_mod_lines.proofs.operands_laid.Tie as tie
 

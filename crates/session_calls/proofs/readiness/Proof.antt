@@ -1,5 +1,5 @@
 -- `readiness`: the lengths, then the ranges.
-use Rattle.session_state.proofs.Commands.{fails, passes}
+use Rattle.logic.proofs.Judged.{fails, passes}
 use Rattle.buffers_lengths.proofs.Sizes.{same-sizes}
 use Rattle.session_calls.proofs.Judged.{wrong-length, out-of-range, in-range}
 use borrow.Author.Needs.{needs}

@@ -1,5 +1,6 @@
 -- `is_input`: a signal, and its kind.
-use Rattle.session_state.proofs.Commands.{signal-high, passes, input-stops, input-goes-on}
+use Rattle.logic.proofs.Judged.{passes}
+use Rattle.session_state.proofs.Commands.{signal-high, input-stops, input-goes-on}
 use native.Mathlib.Omega.{arith}
 use borrow.Author.Needs.{needs}
 use Rattle.session_state.proofs.is_input.Statement.{statement}

@@ -3,7 +3,8 @@ use mathlib.Core.Path.{refl, ap}
 use Prim.Native.Nat.{ℕ}
 use Rattle.model.specs.Session.{value}
 use Rattle.session_state.specs.Header.{headOf}
-use Rattle.session_state.proofs.Commands.{signal-low, signal-high, fails, passes, read-no-signal, read-done, tells}
+use Rattle.logic.proofs.Judged.{fails, passes}
+use Rattle.session_state.proofs.Commands.{signal-low, signal-high, read-no-signal, read-done, tells}
 use native.Mathlib.Omega.{arith}
 use borrow.Author.Needs.{needs}
 use Rattle.session_state.proofs.Session.read.Statement.{statement}

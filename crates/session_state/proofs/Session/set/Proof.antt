@@ -1,7 +1,8 @@
 -- `set`: 41, 42 and the setting, each as the model has it.
 use mathlib.Core.Path.{refl}
 use Rattle.session_state.specs.Header.{headOf}
-use Rattle.session_state.proofs.Commands.{signal-high, fails, passes, input-signal, set-no-signal, set-no-value, set-done, tells}
+use Rattle.logic.proofs.Judged.{fails, passes}
+use Rattle.session_state.proofs.Commands.{signal-high, input-signal, set-no-signal, set-no-value, set-done, tells}
 use native.Mathlib.Omega.{arith}
 use borrow.Author.Needs.{needs}
 use Rattle.session_state.proofs.Session.set.Statement.{statement}

@@ -1,7 +1,8 @@
 -- `watch`: 41, 42 and the watch, each as the model has it.
 use mathlib.Core.Path.{refl}
 use Rattle.session_state.specs.Header.{headOf}
-use Rattle.session_state.proofs.Commands.{signal-high, fails, passes, watch-no-signal, watch-no-mask, watch-done, tells}
+use Rattle.logic.proofs.Judged.{fails, passes}
+use Rattle.session_state.proofs.Commands.{signal-high, watch-no-signal, watch-no-mask, watch-done, tells}
 use native.Mathlib.Omega.{arith}
 use borrow.Author.Needs.{needs}
 use Rattle.session_state.proofs.Session.watch.Statement.{statement}
