@@ -13,7 +13,8 @@ use Rattle.model.specs.Demands.{Demand2}
 use Rattle.model.proofs.Demands.{printed-demand-2}
 use Rattle.laws_listing.specs.Reading.{firstBytes}
 use Rattle.laws_listing.proofs.Printed.{pieces-joined, read-printed}
-use Rattle.cavundir.specs.Handing.{partFor, partAt, countFor, partCount, Handing, Output}
+use Rattle.listing_print.specs.Handing.{partFor, partAt, countFor, partCount, Handing}
+use Rattle.cavundir.specs.Output.{Output}
 
 -- all parts in order are what is printed
 parts-joined : (files : Files) → joined (partCount files) (partAt files) ≡ printed panelLimit files

@@ -19,7 +19,8 @@ use Rattle.model.specs.Listing.{joined, printed}
 use Rattle.model.proofs.Refusals.{first-stays, first-second}
 use Rattle.model.proofs.Demands.{joined-same}
 use Rattle.laws_listing.specs.Reading.{firstBytes}
-use Rattle.cavundir.specs.Handing.{filesOf, partFor, partAt, countFor, partCount, Handing, ReadFrom}
+use Rattle.listing_print.specs.Handing.{filesOf, partFor, partAt, countFor, partCount, Handing}
+use Rattle.cavundir.specs.Output.{ReadFrom}
 use Rattle.cavundir.proofs.Handed.{handed-printed, handed-begins}
 use Rattle.cavundir.proofs.run.Kinds.{ps as run-ps, r as run-r}
 use Rattle.cavundir.proofs.run.Reads.{Learnt as RunTells}

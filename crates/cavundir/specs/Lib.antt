@@ -1,1 +1,1 @@
-pub mod Handing
+pub mod Output

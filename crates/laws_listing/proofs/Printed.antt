@@ -31,7 +31,6 @@ use Rattle.listing.specs.declared.Lister.{Lister}
 use Rattle.file_checks.specs.Refused.{refusedText}
 use Rattle.listing.specs.Pieces.{pieceCount, pieceAt}
 use Rattle.listing.specs.Standing.{Stands, Gives}
-use Rattle.listing.proofs.Standing.{end-small}
 use Rattle.laws_listing.specs.Reading.{firstBytes}
 use Rattle.laws_listing.specs.Printing.{inOrder, Steps, over, more, Prints, net-refused, mod-refused, stim-refused, listed}
 
@@ -233,10 +232,6 @@ module _ (files : Files) where
     where
       lists : listing read ≡ printed panelLimit files
       lists = subst (λ (x : Files). listing x ≡ printed panelLimit files) (sym (read-whole accepted)) (accepted-prints files (subst (Accepted panelLimit) (read-whole accepted) accepted))
-
--- The pieces are T + 2, at most 65,537, and none has more than 77,824 bytes (`Pieces.piece-short`)
-pub pieces-few : (files : Files) → Accepted panelLimit files → pieceCount files ≤ 65537
-pieces-few files accepted = omega (arith, end-small (networkOf files) (files .STIM) (stim-accepted panelLimit files accepted))
 
 -- Demand 2 of whatever is printed by these contracts
 pub program-demand-2 : (prints : Files → List ℕ) → ((files : Files) → Prints (firstBytes files) (prints files)) → Demand2 panelLimit prints

@@ -4,10 +4,10 @@ use native.Mathlib.Omega.{arith}
 use Rattle.file_checks.specs.Refused.{refusedText}
 use Rattle.file_checks.proofs.Refused.{refused-short}
 use borrow.Author.Needs.{needs}
-use Rattle.cavundir.proofs.Parts.{prefix-length}
-use Rattle.cavundir.proofs.Printing.{written, line-short, refusal-part, refusal-count, refusal-handed}
-use Rattle.cavundir.proofs.print_refusal.Statement.{statement}
-use Rattle.cavundir.proofs.print_refusal.Tie as tie
+use Rattle.listing_print.proofs.Parts.{prefix-length}
+use Rattle.listing_print.proofs.Printing.{written, line-short, refusal-part, refusal-count, refusal-handed}
+use Rattle.listing_print.proofs.print_refusal.Statement.{statement}
+use Rattle.listing_print.proofs.print_refusal.Tie as tie
 
 array-share-prefix-line : tie.Need-array-share-prefix-line
 array-share-prefix-line c =

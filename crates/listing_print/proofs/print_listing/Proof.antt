@@ -8,11 +8,11 @@ use Rattle.buffers_memory.specs.Memory.{memoryLength}
 use Rattle.buffers_tables.specs.Panel.{panelLength}
 use Rattle.buffers_tables.specs.Program.{programLength}
 use Rattle.listing.specs.Changes.{pieceLength}
-use Rattle.cavundir.specs.Handing.{filesOf}
-use Rattle.cavundir.proofs.Parts.{prefix-length}
-use Rattle.cavundir.proofs.Printing.{parts-few, handed-cut, Underway, starts, all-handed, left, standing, gives-room, gives-next, goes-on}
-use Rattle.cavundir.proofs.print_listing.Statement.{statement}
-use Rattle.cavundir.proofs.print_listing.Tie as tie
+use Rattle.listing_print.specs.Handing.{filesOf}
+use Rattle.listing_print.proofs.Parts.{prefix-length}
+use Rattle.listing_print.proofs.Printing.{parts-few, handed-cut, Underway, starts, all-handed, left, standing, gives-room, gives-next, goes-on}
+use Rattle.listing_print.proofs.print_listing.Statement.{statement}
+use Rattle.listing_print.proofs.print_listing.Tie as tie
 
 abbrev Inv-loop : tie.InvT-loop
 Inv-loop net modfile stim lines parts₀ failed₀ panel₀ program memory₀ shown₀ piece₀ lister₀ count counter₀ parts failed panel memory shown piece lister counter =

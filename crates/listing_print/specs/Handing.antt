@@ -6,12 +6,9 @@ use mathlib.Core.Bool.{Bool, true, false}
 use mathlib.Core.List.{List}
 use Rattle.model.specs.Refusal.{Check, pass, fail}
 use Rattle.model.specs.Files.{Files}
-use Rattle.model.specs.Netlist.{netCheck}
-use Rattle.model.specs.ModuleFile.{modCheck}
-use Rattle.model.specs.Acceptance.{panelLimit, networkOf, fileCheck}
-use Rattle.model.specs.Listing.{joined, refusalLine}
+use Rattle.model.specs.Acceptance.{panelLimit, fileCheck}
+use Rattle.model.specs.Listing.{refusalLine}
 use Rattle.listing.specs.Pieces.{pieceCount, pieceAt}
-use Rattle.laws_listing.specs.Reading.{firstBytes}
 
 -- the three files, by their bytes
 abbrev pub filesOf : List ℕ → List ℕ → List ℕ → Files
@@ -41,15 +38,3 @@ pub record Handing (files : Files) (parts : ℕ) (failed : Bool) : Type 0 where
   pub few : parts ≤ partCount files
   pub whole : failed ≡ false → parts ≡ partCount files
   pub cut : failed ≡ true → parts < partCount files
-
--- What was read of whole files: the first bytes of each, up to the first one that is refused; those after it are not read
-pub record ReadFrom (files read : Files) : Type 0 where
-  pub net : read .NET ≡ firstBytes files .NET
-  pub modfile : netCheck panelLimit (read .NET) ≡ pass → read .MOD ≡ firstBytes files .MOD
-  pub stim : netCheck panelLimit (read .NET) ≡ pass → modCheck (networkOf read) (read .MOD) ≡ pass → read .STIM ≡ firstBytes files .STIM
-
--- A text that the program writes for whole files, of which it reads the first bytes, where no write fails: the parts written, in order
-pub record Output (files : Files) (text : List ℕ) : Type 0 where
-  pub parts : ℕ
-  pub handing : Handing (firstBytes files) parts false
-  pub is : text ≡ joined parts (partAt (firstBytes files))

@@ -8,7 +8,7 @@ use lib.ListN.{length, take}
 use lib.Seq.{sets, sets-eq, length-sets, take-append-seam}
 use Rattle.model.specs.Refusal.{Check, pass, fail}
 use Rattle.model.specs.Files.{Files}
-use Rattle.model.specs.Acceptance.{panelLimit, fileCheck, Accepted}
+use Rattle.model.specs.Acceptance.{panelLimit, networkOf, fileCheck, Accepted}
 use Rattle.file_checks.specs.declared.FileAnswer.{FileAnswer}
 use Rattle.file_checks.specs.Answer.{fileRefusal}
 use Rattle.listing.specs.declared.Lister.{Lister}
@@ -18,8 +18,9 @@ use Rattle.file_checks.specs.Refused.{refusedText}
 use Rattle.listing.specs.Pieces.{pieceCount, pieceAt}
 use Rattle.listing.specs.Standing.{Stands, Standing, Gives}
 use Rattle.file_checks.proofs.Refused.{refused-short}
-use Rattle.laws_listing.proofs.Printed.{pieces-few}
-use Rattle.cavundir.specs.Handing.{partFor, partAt, countFor, partCount, partsAfter, Handing}
+use Rattle.model.proofs.Accepted.{stim-accepted}
+use Rattle.listing.proofs.Standing.{end-small}
+use Rattle.listing_print.specs.Handing.{partFor, partAt, countFor, partCount, partsAfter, Handing}
 
 -- the first bytes of a buffer that a text was written into
 pub written : (text lent out : List ℕ) (n : ℕ) → out ≡ sets lent 0 text → n ≡ length text → length text ≤ length lent → take n out ≡ text
@@ -49,6 +50,10 @@ unfolding partFor countFor refusedText
 refused-part files pass d e not = absurd (not refl)
 refused-part files (fail number returned) d e not =
     subst (λ (x : Check). ((k : ℕ) → refusedText (fail number returned) ≡ partFor x files k) × (1 ≡ countFor x files)) e (λ k. refl, refl)
+
+-- a listing has at most 65537 pieces
+pieces-few : (files : Files) → Accepted panelLimit files → pieceCount files ≤ 65537
+pieces-few files accepted = omega (arith, end-small (networkOf files) (files .STIM) (stim-accepted panelLimit files accepted))
 
 -- no files have more parts than the longest listing has pieces
 pub parts-few : (files : Files) (k : ℕ) → k < partCount files → k < 65537

@@ -3,10 +3,10 @@ use mathlib.Core.Path.{sym, ap}
 use native.Mathlib.Omega.{arith}
 use denote.Ref.{now}
 use borrow.Author.Needs.{needs}
-use Rattle.cavundir.specs.Handing.{partsAfter}
-use Rattle.cavundir.proofs.Printing.{parts-few}
-use Rattle.cavundir.proofs.put.Statement.{statement}
-use Rattle.cavundir.proofs.put.Tie as tie
+use Rattle.listing_print.specs.Handing.{partsAfter}
+use Rattle.listing_print.proofs.Printing.{parts-few}
+use Rattle.listing_print.proofs.put.Statement.{statement}
+use Rattle.listing_print.proofs.put.Tie as tie
 
 add-parts : tie.Need-add-parts
 add-parts c =
