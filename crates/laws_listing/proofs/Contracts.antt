@@ -13,7 +13,7 @@ use Rattle.model.specs.Files.{Files}
 use Rattle.buffers_tables.specs.declared.Cycle.{Cycle}
 use Rattle.file_checks.specs.Answer.{fileRefusal}
 use Rattle.listing.specs.declared.Lister.{Lister}
-use Rattle.listing.specs.Changes.{pieceLength}
+use Rattle.listing_cycle.specs.Changes.{pieceLength}
 use Rattle.file_checks.specs.Refused.{refusedText}
 use Rattle.listing.specs.Pieces.{pieceCount}
 use Rattle.listing.specs.Standing.{Stands}

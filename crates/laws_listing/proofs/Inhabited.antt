@@ -35,15 +35,16 @@ use Rattle.session_state.proofs.Heads.{same-head, past-end, decoded}
 use Rattle.file_stim.proofs.Steps.{GivenAt}
 use Rattle.listing.specs.declared.Lister.{Lister}
 use Rattle.listing.specs.declared.Piece.{Piece}
-use Rattle.listing.specs.Changes.{pieceLength, shownLength, notShown, valueHeld, changeLines, shownWith}
-use Rattle.listing.specs.Feeding.{Fed}
-use Rattle.listing.specs.Cycling.{cycled}
+use Rattle.listing_cycle.specs.Changes.{pieceLength, shownLength, notShown, valueHeld, changeLines, shownWith}
+use Rattle.listing_cycle.specs.Feeding.{Fed}
+use Rattle.listing_cycle.specs.Cycling.{cycled}
 use Rattle.listing.specs.Pieces.{pieceCount}
 use Rattle.listing.specs.Buffers.{lineAt}
 use Rattle.listing.specs.Standing.{Stands, Gives}
 use Rattle.laws_listing.specs.Reading.{firstBytes}
 use Rattle.laws_listing.specs.Printing.{inOrder, Steps, over, more, Prints, net-refused, mod-refused, stim-refused, listed as all-listed}
-use Rattle.listing.proofs.Feeding.{fed-starts, fed-more, lines-passed}
+use Rattle.listing_cycle.proofs.Feeding.{fed-starts, fed-more}
+use Rattle.listing.proofs.Lines.{lines-passed}
 use Rattle.listing.proofs.Standing.{right-signals, stands-few, stands-sound, at-count, by-count, gives-last, gives-zeroth, gives-later}
 use Rattle.listing.proofs.Opening.{opened}
 use Rattle.laws_listing.proofs.Printed.{program-prints, program-demand-2}

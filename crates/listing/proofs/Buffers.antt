@@ -42,7 +42,7 @@ use Rattle.laws_values.proofs.Valued.{processors-few, slots-few}
 use Rattle.session_state.specs.Header.{headBytes, headByte, withHead}
 use Rattle.laws_kept.proofs.Heads.{session-byte, with-head-hand, with-head-column}
 use Rattle.laws_kept.proofs.Holding.{signal-high, with-head-holding}
-use Rattle.listing.specs.Changes.{shownLength, notShown, valueHeld, shownWith}
+use Rattle.listing_cycle.specs.Changes.{shownLength, notShown, valueHeld, shownWith}
 use Rattle.listing.specs.Buffers.{cyclesAfter, handAt, panelAt, memoryAt, shownAt, shownAfter}
 
 -- a head written over another

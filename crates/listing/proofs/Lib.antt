@@ -1,6 +1,4 @@
-pub mod Changes
-pub mod Feeding
-pub mod Cycling
+pub mod Lines
 pub mod Buffers
 pub mod Pieces
 pub mod Standing

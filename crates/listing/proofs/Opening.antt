@@ -22,12 +22,12 @@ use Rattle.session_opening.proofs.Opened.{opened-ranged}
 use Rattle.session_state.specs.Header.{headIn, headOf}
 use Rattle.session_state.proofs.Heads.{same-head}
 use Rattle.listing.specs.declared.Lister.{Lister}
-use Rattle.listing.specs.Changes.{shownLength, notShown}
-use Rattle.listing.specs.Feeding.{Stimulus, Passed}
-use Rattle.listing.specs.Cycling.{RightBuffers}
+use Rattle.listing_cycle.specs.Changes.{shownLength, notShown}
+use Rattle.listing_cycle.specs.Feeding.{Stimulus, Passed}
+use Rattle.listing_cycle.specs.Cycling.{RightBuffers}
 use Rattle.listing.specs.Buffers.{cyclesAfter, panelAt, memoryAt, shownAt}
 use Rattle.listing.specs.Standing.{Stands}
-use Rattle.listing.proofs.Feeding.{passed-line}
+use Rattle.listing.proofs.Lines.{passed-line}
 
 pub accepted-stimulus : (files : Files) → Accepted panelLimit files → Stimulus (files .STIM)
 accepted-stimulus files accepted = record { network = networkOf files; passes = stim-accepted panelLimit files accepted }

@@ -18,7 +18,7 @@ use Rattle.model.specs.Netlist.{network}
 use Rattle.logic.specs.Choice.{if_then_else_}
 use Rattle.model.proofs.Accepted.{net-accepted, net-size, stim-accepted, stim-right, held-code}
 use Rattle.model.proofs.Demands.{joined-same}
-use Rattle.listing.specs.Changes.{pieceLength, notShown, changeLine, changeLines}
+use Rattle.listing_cycle.specs.Changes.{pieceLength, notShown, changeLine, changeLines}
 use Rattle.listing.specs.Pieces.{pieceAt}
 use Rattle.listing.specs.Buffers.{shownAt}
 use Rattle.writing.proofs.Writing.{length-line}

@@ -39,14 +39,14 @@ use Rattle.file_stim.proofs.Passed.{nothing-later, given-by-then}
 use Rattle.file_stim.proofs.Steps.{line-right, time-field}
 use Rattle.listing.specs.declared.Lister.{Lister}
 use Rattle.listing.specs.declared.Piece.{Piece}
-use Rattle.listing.specs.Changes.{shownLength, valueHeld, changeLines, shownWith}
-use Rattle.listing.specs.Feeding.{Stimulus, Passed, PanelInputs, InHand, Fed}
-use Rattle.listing.specs.Cycling.{RightBuffers, Ready, InPanel, cycled}
+use Rattle.listing_cycle.specs.Changes.{shownLength, valueHeld, changeLines, shownWith}
+use Rattle.listing_cycle.specs.Feeding.{Stimulus, Passed, PanelInputs, InHand, Fed}
+use Rattle.listing_cycle.specs.Cycling.{RightBuffers, Ready, InPanel, cycled}
 use Rattle.listing.specs.Pieces.{pieceAt}
 use Rattle.listing.specs.Buffers.{cyclesAfter, lineAt, handAt, panelAt, panelAfter, memoryAt, shownAt, shownAfter, headAt, headAfter}
 use Rattle.listing.specs.Standing.{Stands, Gives}
-use Rattle.listing.proofs.Feeding.{lines-passed, passed-line}
-use Rattle.listing.proofs.Cycling.{fresh-head, cycle-right}
+use Rattle.listing.proofs.Lines.{lines-passed, passed-line}
+use Rattle.listing_cycle.proofs.Cycling.{fresh-head, cycle-right}
 use Rattle.listing.proofs.Buffers.{cycles-at, cycles-last, shown-last, hand-signal, hand-none, panel-next, panel-holding, panel-hand, panel-none, places-hold, memory-next, shown-next}
 use Rattle.listing.proofs.Pieces.{piece-is, piece-last, piece-short}
 

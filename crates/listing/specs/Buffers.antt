@@ -19,7 +19,7 @@ use Rattle.buffers_memory.specs.Memory.{withMemory}
 use Rattle.buffers_tables.specs.Panel.{handIn}
 use Rattle.buffers_load.specs.Loaded.{panelOf}
 use Rattle.session_state.specs.Header.{withHead}
-use Rattle.listing.specs.Changes.{shownLength, notShown}
+use Rattle.listing_cycle.specs.Changes.{shownLength, notShown}
 
 -- the cycles finished: piece 0 is time 0, and after T cycles the last line asks for none
 unfoldable pub cyclesAfter : Files → ℕ → ℕ

@@ -12,8 +12,8 @@ use Rattle.buffers_load.specs.Loaded.{programOf}
 use Rattle.session_state.specs.Header.{headOf}
 use Rattle.listing.specs.declared.Lister.{Lister}
 use Rattle.listing.specs.declared.Piece.{Piece}
-use Rattle.listing.specs.Changes.{pieceLength, shownLength}
-use Rattle.listing.specs.Cycling.{RightBuffers}
+use Rattle.listing_cycle.specs.Changes.{pieceLength, shownLength}
+use Rattle.listing_cycle.specs.Cycling.{RightBuffers}
 use Rattle.listing.specs.Pieces.{pieceAt}
 use Rattle.listing.specs.Buffers.{lineAfter, headAfter, panelAfter, memoryAfter, shownAfter}
 

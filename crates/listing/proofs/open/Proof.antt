@@ -4,7 +4,7 @@ use mathlib.Core.Path.{refl, _∙_, ap}
 use Rattle.logic.specs.Listed.{listed}
 use Rattle.model.proofs.Accepted.{net-accepted, mod-accepted, stim-accepted}
 use Rattle.model.specs.Acceptance.{panelLimit}
-use Rattle.listing.specs.Changes.{notShown}
+use Rattle.listing_cycle.specs.Changes.{notShown}
 use Rattle.listing.proofs.Opening.{accepted-stimulus, opened}
 use borrow.Author.Needs.{needs}
 use Rattle.listing.proofs.open.Statement.{statement}
@@ -28,9 +28,11 @@ end-time-requires c κs =
 
 returns : tie.Need-returns
 returns c =
-    let s = c .before .before .before .before .before .before .before .before .before .before .before .before .before .before .before .before .before .before .before .before .before .before .before .before .before in
-    let load = c .before .before .before .before .before .before .before .before .before .before .before .before .before .before .load .ensures in
-    let fill = c .before .before .before .before .before .before .fill .ensures in
+    let filled = c .before .before .before .before .before .before in
+    let fill = filled .fill .ensures in
+    let loaded = filled .before .before .before .before .before .before .before .before in
+    let load = loaded .load .ensures in
+    let s = loaded .before .before .before .before .before .before .before .before .before .before .before in
     opened _ (s .pre .0) _ _ _ _ _ (load .0) (load .1 .0) (load .1 .1) (c .before .before .decode .ensures .0) (c .before .first-later .ensures) (c .end-time .ensures) refl (fill ∙ ap (λ (n : ℕ). listed n (λ a. notShown)) (s .pre .1 .1 .3))
 
 pub open-spec : {M : Type 1} → statement M

@@ -38,20 +38,26 @@ take-settings-requires c κs =
 
 run-one-requires : tie.Need-run-one-requires
 run-one-requires c κs =
-    let st = c .before .before .before .before .before .before .before .before .before .before .before .before .before .before .before .before .before .before .before .pre .0 .stands in
-    let later = c .before .before .before .before .before .before .before .before .if2 .left in
-    let more = c .before .before .before .before .before .before .before .before .before .if1 .left in
-    let fed = c .before .before .before .before .before .before .take-settings .ensures in
+    let settled = c .before .before .before .before .before .before in
+    let fed = settled .take-settings .ensures in
+    let later = settled .before .before .if2 .left in
+    let chosen = settled .before .before .before in
+    let more = chosen .if1 .left in
+    let s = chosen .before .before .before .before .before .before .before .before .before .before in
+    let st = s .pre .0 .stands in
     (later-ready _ (at-count st) later more (fed .0) (fed .1), λ e. later-unfed _ (at-count st) later more (fed .0) (fed .1) (eqb-true _ _ (not-false _ e)))
 
 write-changes-requires-2 : tie.Need-write-changes-requires-2
 write-changes-requires-2 c κs =
-    let s = c .before .before .before .before .before .before .before .before .before .before .before .before .before .before .before .before .before .before .before .before .before .before .before .before .before .before .before .before in
+    let run = c .before .before .before .before .before .before .before .before in
+    let ran = run .run-one .ensures in
+    let settled = run .before .before .before .before .before .before .before in
+    let fed = settled .take-settings .ensures in
+    let later = settled .before .before .if2 .left in
+    let chosen = settled .before .before .before in
+    let more = chosen .if1 .left in
+    let s = chosen .before .before .before .before .before .before .before .before .before .before in
     let st = s .pre .0 .stands in
-    let later = c .before .before .before .before .before .before .before .before .before .before .before .before .before .before .before .before .before .if2 .left in
-    let more = c .before .before .before .before .before .before .before .before .before .before .before .before .before .before .before .before .before .before .if1 .left in
-    let fed = c .before .before .before .before .before .before .before .before .before .before .before .before .before .before .before .take-settings .ensures in
-    let ran = c .before .before .before .before .before .before .before .before .run-one .ensures in
     let right = later-right _ (at-count st) later more (fed .0) (fed .1) _ (ran .1 .1) in
     rw (ran .1 .0) ((right .sizes .panel-size, right-signals right), (right-processor right, (right-memory right, (st .shown-size, s .pre .1))))
 
@@ -62,11 +68,14 @@ add-t22 c =
 
 returns-3 : tie.Need-returns-3
 returns-3 c = λ files k s.
-    let later = c .before .before .before .before .before .before .before .before .before .before .before .before .before .before .before .before .before .before .before .before .before .before .if2 .left in
-    let more = c .before .before .before .before .before .before .before .before .before .before .before .before .before .before .before .before .before .before .before .before .before .before .before .if1 .left in
-    let fed = c .before .before .before .before .before .before .before .before .before .before .before .before .before .before .before .before .before .before .before .before .take-settings .ensures in
-    let ran = c .before .before .before .before .before .before .before .before .before .before .before .before .before .run-one .ensures in
-    let w = c .before .before .before .before .write-changes2 .ensures in
+    let written = c .before .before .before .before in
+    let w = written .write-changes2 .ensures in
+    let run = written .before .before .before .before .before .before .before .before .before in
+    let ran = run .run-one .ensures in
+    let settled = run .before .before .before .before .before .before .before in
+    let fed = settled .take-settings .ensures in
+    let later = settled .before .before .if2 .left in
+    let more = settled .before .before .before .if1 .left in
     by-count s
     (gives-later _ (at-count s) later more (fed .0) (fed .1) _ (ran .1 .0) _ (ran .1 .1) _ _ _ _ (w .0) (w .1 .0) (w .1 .1) (ran .0) refl refl refl)
 

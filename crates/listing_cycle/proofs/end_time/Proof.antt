@@ -3,8 +3,8 @@ use mathlib.Core.Path.{sym, _∙_}
 use native.Mathlib.Omega.{arith}
 use Rattle.file_stim.proofs.Steps.{line-right, given-at, end-at}
 use borrow.Author.Needs.{needs}
-use Rattle.listing.proofs.end_time.Statement.{statement}
-use Rattle.listing.proofs.end_time.Tie as tie
+use Rattle.listing_cycle.proofs.end_time.Statement.{statement}
+use Rattle.listing_cycle.proofs.end_time.Tie as tie
 
 next-requires : tie.Need-next-requires
 next-requires c κs = line-right _ _ (c .before .pre .0 .passes) _ (omega (arith, c .before .pre .1))

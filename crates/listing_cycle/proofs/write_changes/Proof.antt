@@ -4,10 +4,10 @@ use mathlib.Core.Path.{_∙_, sym}
 use lib.ListN.{getD}
 use native.Mathlib.Omega.{arith}
 use borrow.Author.Needs.{needs}
-use Rattle.listing.specs.Changes.{valueHeld}
-use Rattle.listing.proofs.Changes.{Written, written-starts, written-more, written-size, written-ends}
-use Rattle.listing.proofs.write_changes.Statement.{statement}
-use Rattle.listing.proofs.write_changes.Tie as tie
+use Rattle.listing_cycle.specs.Changes.{valueHeld}
+use Rattle.listing_cycle.proofs.Changes.{Written, written-starts, written-more, written-size, written-ends}
+use Rattle.listing_cycle.proofs.write_changes.Statement.{statement}
+use Rattle.listing_cycle.proofs.write_changes.Tie as tie
 
 abbrev Inv-loop : tie.InvT-loop
 Inv-loop time panel memory shown₀ out₀ signals at₀ s₀ shown out at s = Written signals time (valueHeld panel memory) (λ s. getD shown₀ s 0) out₀ s at shown out
@@ -33,10 +33,13 @@ write-change-requires c κs =
 
 loop-again : tie.Need-loop-again Inv-loop μ-loop
 loop-again c =
-    let s = c .before .before .before .before .before .before .before .before .before .before .before .before .before .before .before in
-    let size = c .before .before .before .before .before .before .before .before .before .before .word-at .ensures in
     let w = c .before .before .before .before .write-change .ensures in
-    written-more (c .before .before .before .before .before .before .before .before .before .loop .inv) _ _ _ _ (c .before .before .before .before .before .before .before .before .loop-test .taken) (omega (arith, s .pre .0 .1)) (c .before .before .before .before .before .before .before .value-of .ensures) (w .0) (w .1 .0) (w .1 .1)
+    let valued = c .before .before .before .before .before .before .before in
+    let turn = valued .before in
+    let read = turn .before .before in
+    let size = read .word-at .ensures in
+    let s = read .before .before .before .before .before in
+    written-more (turn .before .loop .inv) _ _ _ _ (turn .loop-test .taken) (omega (arith, s .pre .0 .1)) (valued .value-of .ensures) (w .0) (w .1 .0) (w .1 .1)
 
 same-length : tie.Need-same-length Inv-loop μ-loop
 same-length c = c .before .loop .inv .size ∙ sym (c .before .before .before .before .before .before .before .pre .1 .1 .1 .0)

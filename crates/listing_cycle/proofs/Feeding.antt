@@ -1,21 +1,19 @@
 -- A time's lines of STIM, one after the other, as settings of the session.
-use Prim.Native.Nat.{ℕ, zero, suc, _<_, _≤_}
+use Prim.Native.Nat.{ℕ, suc, _<_, _≤_}
 use mathlib.Core.Path.{_≡_, refl, sym, subst, _∙_, ap}
 use mathlib.Core.Bool.{Bool, true, false}
 use mathlib.Core.List.{List, []}
 use native.Mathlib.Omega.{arith}
 use native.Mathlib.Numerals.{add-one}
-use native.Mathlib.Decide.{ℕ-discrete, decLt}
+use native.Mathlib.Decide.{ℕ-discrete}
 use lib.Dec.{leb}
 use borrow.Author.Tests.{eq-eqb, ne-eqb, le-leb, leb-true, leb-false}
 use Rattle.logic.specs.Test.{_and_}
-use Rattle.logic.specs.Choice.{if_then_else_}
-use Rattle.model.specs.Refusal.{pass}
 use Rattle.model.specs.Network.{Network}
 use Rattle.model.specs.Machine.{Memory}
-use Rattle.model.specs.Stimulus.{stimTime, stimSignal, stimCheck, stimCount, lastGiven}
+use Rattle.model.specs.Stimulus.{stimTime, stimSignal, stimCount, lastGiven}
 use Rattle.model.specs.Session.{Head, set, replaced, Outcome, done}
-use Rattle.model.proofs.Accepted.{stim-right, times-rise}
+use Rattle.model.proofs.Accepted.{stim-right}
 use Rattle.buffers_tables.specs.Panel.{signalsIn}
 use Rattle.session_state.specs.Commands.{inputIn, withValue, commanded}
 use Rattle.session_state.proofs.Commands.{input-signal, signal-low, signal-high, set-no-signal, set-no-value, set-done}
@@ -23,8 +21,7 @@ use Rattle.laws_kept.specs.Sound.{Sound}
 use Rattle.laws_kept.proofs.Sound.{with-value-sound}
 use Rattle.file_stim.specs.declared.Cursor.{Cursor}
 use Rattle.file_stim.proofs.Steps.{GivenAt}
-use Rattle.listing.specs.Feeding.{Passed, PanelInputs, InHand, Fed}
-use Rattle.listing.specs.Buffers.{linesTo}
+use Rattle.listing_cycle.specs.Feeding.{PanelInputs, InHand, Fed}
 
 -- what holds of a head, and of it with an input's value replaced, holds after a setting, whether it is accepted or not
 set-either : (P : Head → Type 0) (panel : List ℕ) (h : Head) (s v : ℕ) → P h → (inputIn panel s ≡ true → v ≤ 3 → P (withValue h s v))
@@ -139,55 +136,3 @@ skipped-more {stim} {line} {next = next} so-far g zeroth =
     at : (k : ℕ) → k < next .line → Dec (k ≡ line) → stimTime stim k ≤ 0
     at k l (yes q) = rw q (omega (arith, g .time-is, zeroth))
     at k l (no d) = so-far .earlier k (omega (arith, g .follows))
-
--- there is one line after those of times up to t, and `linesTo` counts to it
-passed-one : {stim : List ℕ} {t a b : ℕ} → Passed stim t a → Passed stim t b → a ≡ b
-passed-one {stim} {t} {a} {b} p q = go (decLt a b) (decLt b a)
-  where
-    go : Dec (a < b) → Dec (b < a) → a ≡ b
-    go (yes l) d = absurd (omega (arith, q .earlier a l, p .later (omega (arith, q .few))))
-    go (no c) (yes l) = absurd (omega (arith, p .earlier b l, q .later (omega (arith, p .few))))
-    go (no c) (no d) = omega arith
-
-module _ (n : Network) (stim : List ℕ) (passes : stimCheck n stim ≡ pass) (t : ℕ) where
-  -- of the first c lines
-  record First (c line : ℕ) : Type 0 where
-    few : line ≤ c
-    earlier : (k : ℕ) → k < line → stimTime stim k ≤ t
-    later : line < c → t < stimTime stim line
-
-  first-more : (c line : ℕ) → c < stimCount stim → First c line → First (suc c) (if leb (stimTime stim c) t then suc line else line)
-  first-more c line l f = go (leb (stimTime stim c) t) refl
-    where
-      go : (b : Bool) → leb (stimTime stim c) t ≡ b → First (suc c) (if b then suc line else line)
-      go true e =
-          let up = leb-true (stimTime stim c) t e in
-          let all : line ≡ c = whole up (decLt line c) in
-          record { few = omega (arith, f .few); earlier = λ k b. early k up all b (ℕ-discrete k line); later = λ b. absurd (omega arith) }
-        where
-          whole : stimTime stim c ≤ t → Dec (line < c) → line ≡ c
-          whole up (yes b) =
-              absurd (omega (arith, f .later b, times-rise n stim (stim-right n stim passes) line c (omega arith) (omega arith)))
-          whole up (no d) = omega (arith, f .few)
-
-          early : (k : ℕ) → stimTime stim c ≤ t → line ≡ c → k < suc line → Dec (k ≡ line) → stimTime stim k ≤ t
-          early k up all b (yes q) = rw (q ∙ all) up
-          early k up all b (no d) = f .earlier k (omega arith)
-      go false e =
-          let above = leb-false (stimTime stim c) t e in
-          record { few = omega (arith, f .few); earlier = f .earlier; later = λ b. late above (decLt line c) }
-        where
-          late : t < stimTime stim c → Dec (line < c) → t < stimTime stim line
-          late above (yes b) = f .later b
-          late above (no d) = let q : line ≡ c = omega (arith, f .few) in rw q above
-
-  firsts : (c : ℕ) → c ≤ stimCount stim → First c (linesTo stim t c)
-  unfolding linesTo
-  firsts zero h = record { few = omega arith; earlier = λ k l. absurd (omega arith); later = λ l. absurd (omega arith) }
-  firsts (suc c) h = first-more c (linesTo stim t c) h (firsts c (omega arith))
-
-  pub lines-passed : Passed stim t (linesTo stim t (stimCount stim))
-  lines-passed = let f = firsts (stimCount stim) (omega arith) in record { few = f .few; earlier = f .earlier; later = f .later }
-
-  pub passed-line : (line : ℕ) → Passed stim t line → line ≡ linesTo stim t (stimCount stim)
-  passed-line line p = passed-one p lines-passed

@@ -16,7 +16,7 @@ use Rattle.logic.proofs.Listed.{is-listed}
 use Rattle.writing.specs.Text.{lineText}
 use Rattle.writing.proofs.Writing.{sets-append, length-line}
 use Rattle.model.specs.Listing.{joined}
-use Rattle.listing.specs.Changes.{shownLength, changeLine, changeLines, shownWith}
+use Rattle.listing_cycle.specs.Changes.{shownLength, changeLine, changeLines, shownWith}
 
 -- one signal
 module _ (time s value shown : ℕ) where

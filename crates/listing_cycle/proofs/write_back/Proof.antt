@@ -1,7 +1,7 @@
 -- Either way the panel has the session.
 use borrow.Author.Needs.{needs}
-use Rattle.listing.proofs.write_back.Statement.{statement}
-use Rattle.listing.proofs.write_back.Tie as tie
+use Rattle.listing_cycle.proofs.write_back.Statement.{statement}
+use Rattle.listing_cycle.proofs.write_back.Tie as tie
 
 encode-numbers-requires : tie.Need-encode-numbers-requires
 encode-numbers-requires c κs =

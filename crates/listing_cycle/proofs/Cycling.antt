@@ -24,7 +24,7 @@ use Rattle.session_calls.proofs.Watched.{ranged-watching}
 use Rattle.laws_kept.proofs.Heads.{with-head-length, with-head-processors, with-head-slots, with-head-mask}
 use Rattle.laws_kept.proofs.Memories.{small-in, ticks-small, with-memory-values}
 use Rattle.laws_kept.proofs.Sound.{head-again, with-head-ranged}
-use Rattle.listing.specs.Cycling.{RightBuffers, Ready, cycled}
+use Rattle.listing_cycle.specs.Cycling.{RightBuffers, Ready, cycled}
 
 -- mask 0 has no bit
 watches-none : (mask v : ℕ) → mask ≡ 0 → watched mask v ≡ false

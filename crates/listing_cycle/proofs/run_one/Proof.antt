@@ -1,8 +1,8 @@
 -- The session written into the panel, and one cycle of it.
-use Rattle.listing.proofs.Cycling.{fresh-tables, fresh-watching, fresh-memory, fresh-head, cycle-left}
+use Rattle.listing_cycle.proofs.Cycling.{fresh-tables, fresh-watching, fresh-memory, fresh-head, cycle-left}
 use borrow.Author.Needs.{needs}
-use Rattle.listing.proofs.run_one.Statement.{statement}
-use Rattle.listing.proofs.run_one.Tie as tie
+use Rattle.listing_cycle.proofs.run_one.Statement.{statement}
+use Rattle.listing_cycle.proofs.run_one.Tie as tie
 
 write-back-requires : tie.Need-write-back-requires
 write-back-requires c κs =
@@ -16,8 +16,10 @@ run-requires c κs =
 
 returns : tie.Need-returns
 returns c =
-    let e = c .before .before .before .before .before .before .before .before .write-back .ensures in
-    let left = cycle-left _ _ _ _ (c .before .before .before .before .before .before .before .before .before .before .before .before .before .pre .0) _ _ _ e (c .before .before .before .run .ensures .0) (c .before .before .before .run .ensures .1) in
+    let ran = c .before .before .before .run .ensures in
+    let back = c .before .before .before .before .before .before .before .before in
+    let e = back .write-back .ensures in
+    let left = cycle-left _ _ _ _ (back .before .before .before .before .before .pre .0) _ _ _ e (ran .0) (ran .1) in
     (left .0, (e, left .1))
 
 pub run-one-spec : {M : Type 1} → statement M

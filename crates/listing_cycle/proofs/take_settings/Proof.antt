@@ -7,10 +7,10 @@ use borrow.Author.Needs.{needs}
 use Rattle.model.specs.Stimulus.{stimCount}
 use Rattle.session_state.specs.Header.{headOf}
 use Rattle.file_stim.proofs.Steps.{line-right, given-at, end-at}
-use Rattle.listing.specs.Feeding.{Fed}
-use Rattle.listing.proofs.Feeding.{fed-starts, fed-more}
-use Rattle.listing.proofs.take_settings.Statement.{statement}
-use Rattle.listing.proofs.take_settings.Tie as tie
+use Rattle.listing_cycle.specs.Feeding.{Fed}
+use Rattle.listing_cycle.proofs.Feeding.{fed-starts, fed-more}
+use Rattle.listing_cycle.proofs.take_settings.Statement.{statement}
+use Rattle.listing_cycle.proofs.take_settings.Tie as tie
 
 abbrev Inv-loop : tie.InvT-loop
 Inv-loop time stim panel session₀ cursor₀ session cursor = Fed stim panel time (cursor₀ .line) (headOf session₀) (headOf session) (cursor .line)
@@ -32,19 +32,26 @@ returns c =
 
 returns-2 : tie.Need-returns-2 Inv-loop μ-loop
 returns-2 c =
-    let g = given-at _ _ (c .before .before .before .before .before .before .before .before .pre .0 .passes) _ (c .before .before .before .before .before .loop .inv .few) _ _ _ _ (sym (c .before .before .before .before .next .ensures) ∙ c .before .before .at .given .1) in
-    (c .before .before .before .before .before .loop .inv, λ h q. c .if1 .taken (g .time-is ∙ q))
+    let read = c .before .before .before .before in
+    let i = read .before .loop .inv in
+    let g = given-at _ _ (read .before .before .before .before .pre .0 .passes) _ (i .few) _ _ _ _ (sym (read .next .ensures) ∙ c .before .before .at .given .1) in
+    (i, λ h q. c .if1 .taken (g .time-is ∙ q))
 
 set-requires : tie.Need-set-requires Inv-loop μ-loop
 set-requires c κs = c .before .before .before .before .before .before .before .before .pre .1 .1
 
 loop-less : tie.Need-loop-less Inv-loop μ-loop
 loop-less c =
-    let g = given-at _ _ (c .before .before .before .before .before .before .before .before .before .before .pre .0 .passes) _ (c .before .before .before .before .before .before .before .loop .inv .few) _ _ _ _ (sym (c .before .before .before .before .before .before .next .ensures) ∙ c .before .before .before .before .at .given .1) in
+    let read = c .before .before .before .before .before .before in
+    let g = given-at _ _ (read .before .before .before .before .pre .0 .passes) _ (read .before .loop .inv .few) _ _ _ _ (sym (read .next .ensures) ∙ c .before .before .before .before .at .given .1) in
     omega (arith, g .before-end, g .follows)
 
 loop-again : tie.Need-loop-again Inv-loop μ-loop
-loop-again c = fed-more (c .before .before .before .before .before .before .before .loop .inv) (given-at _ _ (c .before .before .before .before .before .before .before .before .before .before .pre .0 .passes) _ (c .before .before .before .before .before .before .before .loop .inv .few) _ _ _ _ (sym (c .before .before .before .before .before .before .next .ensures) ∙ c .before .before .before .before .at .given .1)) (c .before .before .if1 .left) _ (c .before .set .ensures [] [] .head)
+loop-again c =
+    let read = c .before .before .before .before .before .before in
+    let i = read .before .loop .inv in
+    let g = given-at _ _ (read .before .before .before .before .pre .0 .passes) _ (i .few) _ _ _ _ (sym (read .next .ensures) ∙ c .before .before .before .before .at .given .1) in
+    fed-more i g (c .before .before .if1 .left) _ (c .before .set .ensures [] [] .head)
 
 pub take-settings-spec : {M : Type 1} → statement M
 take-settings-spec =

@@ -5,9 +5,9 @@ use native.Mathlib.Omega.{arith}
 use borrow.Author.Needs.{needs}
 use Rattle.model.specs.Stimulus.{stimCount}
 use Rattle.file_stim.proofs.Steps.{line-right, given-at, end-at}
-use Rattle.listing.proofs.Feeding.{Skipped, skipped-more}
-use Rattle.listing.proofs.first_later.Statement.{statement}
-use Rattle.listing.proofs.first_later.Tie as tie
+use Rattle.listing_cycle.proofs.Feeding.{Skipped, skipped-more}
+use Rattle.listing_cycle.proofs.first_later.Statement.{statement}
+use Rattle.listing_cycle.proofs.first_later.Tie as tie
 
 abbrev Inv-loop : tie.InvT-loop
 Inv-loop stim cursor₀ cursor = Skipped stim (cursor .line)
