@@ -11,7 +11,7 @@ use Rattle.model.specs.Network.{Network}
 use Rattle.model.specs.Module.{Module, At, Laid, localPresent, switchPresent, noPart, noSender}
 use Rattle.model.specs.ModuleFile.{locationLayout, operandLayout, sendLayout, senderLayout}
 use Rattle.model.proofs.Accepted.{Located}
-use Rattle.buffers_range.specs.Ranges.{lineRanged}
+use Rattle.buffers_range_program.specs.Ranges.{lineRanged}
 
 -- the line of processor p and slot i
 pub record Line (n : Network) (m : Module) (p i : ℕ) : Type 0 where

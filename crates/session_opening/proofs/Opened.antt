@@ -30,8 +30,9 @@ use Rattle.buffers_memory.specs.Memory.{blank, place, within}
 use Rattle.buffers_memory.proofs.Written.{Place, written-at}
 use Rattle.buffers_tables.specs.Panel.{panelLength, signalsIn, processorsIn, slotsIn, kindIn}
 use Rattle.buffers_tables.specs.Tables.{networkIn, moduleIn}
-use Rattle.buffers_range.specs.Ranges.{codesRanged, ranged}
-use Rattle.buffers_range.proofs.Numbers.{Head, Numbers, Panel, zeros-input, supplied-gate}
+use Rattle.buffers_range_panel.specs.Ranges.{codesRanged}
+use Rattle.buffers_range.specs.Ranges.{ranged}
+use Rattle.buffers_range_panel.proofs.Numbers.{Head, Numbers, Panel, zeros-input, supplied-gate}
 use Rattle.buffers_range.proofs.Laid.{Line}
 use Rattle.buffers_range.proofs.Ranged.{Program, Values, is-ranged, head-ranged}
 use Rattle.buffers_load.specs.Loaded.{timeZero, placeOf, panelOf, programOf, openingBytes}

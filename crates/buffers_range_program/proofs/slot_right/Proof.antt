@@ -1,0 +1,67 @@
+-- The invariant: the lines of the first p processors are in range.
+use Prim.Native.Nat.{_+_, _-_, _*_, _≤_}
+use mathlib.Core.Path.{_≡_, sym, _∙_}
+use mathlib.Core.Bool.{true}
+use Rattle.logic.specs.Test.{all}
+use Rattle.logic.proofs.Tests.{all-more, all-fails, all-ends}
+use Rattle.logic.proofs.Judged.{no, yes, fails, passes}
+use Rattle.buffers_range_program.specs.Order.{lineAt, slotAt}
+use borrow.Author.Needs.{needs}
+use native.Mathlib.Omega.{arith}
+use Rattle.buffers_range_program.proofs.slot_right.Statement.{statement}
+use Rattle.buffers_range_program.proofs.slot_right.Tie as tie
+
+abbrev Inv-loop : tie.InvT-loop
+Inv-loop program slot signals processors slots at lines p₀ p = (p ≤ lines) × (all p (λ q. lineAt program (at + 13 * q) signals processors slots) ≡ true)
+
+abbrev μ-loop : tie.MeasureT-loop
+μ-loop program slot signals processors slots at lines p₀ p = lines - p
+
+loop-holds : tie.Need-loop-holds Inv-loop μ-loop
+unfolding all
+loop-holds c = search needs
+
+returns : tie.Need-returns Inv-loop μ-loop
+unfolding slotAt
+returns c =
+    let loop-test = c .before .before .loop-test in
+    let line-right = c .before .line-right in
+    let if1 = c .if1 in
+    sym (no _ _ (all-fails _ _ _ (loop-test .taken) (fails _ _ (line-right .ensures) (if1 .taken))))
+
+loop-again : tie.Need-loop-again Inv-loop μ-loop
+loop-again c =
+    let loop = c .before .before .before .loop in
+    let line-right = c .before .line-right in
+    let if1 = c .if1 in
+    (omega arith, all-more _ _ (loop .inv .1) (passes _ _ (line-right .ensures) (if1 .left)))
+
+returns-2 : tie.Need-returns-2 Inv-loop μ-loop
+unfolding slotAt
+returns-2 c =
+    let loop = c .before .before .loop in
+    let loop-test = c .before .loop-test in
+    let all-zero = c .all-zero in
+    all-zero .ensures ∙ sym (yes _ _ (all-ends _ _ _ (loop .inv .0) (loop-test .left) (loop .inv .1)))
+
+pub slot-right-spec : {M : Type 1} → statement M
+slot-right-spec =
+    tie.close
+    (tie.spec
+    Inv-loop
+    μ-loop
+    (λ c. search needs)
+    loop-holds
+    (λ c. search needs)
+    (λ c. search needs)
+    (λ c κs. search needs)
+    returns
+    (λ c. search needs)
+    (λ c. search needs)
+    loop-again
+    (λ c. search needs)
+    (λ c. search needs)
+    (λ c. search needs)
+    (λ c. search needs)
+    (λ c κs. search needs)
+    returns-2)
