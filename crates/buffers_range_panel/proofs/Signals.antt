@@ -1,4 +1,4 @@
--- What the loop over the signals answers: it chain-stops at the first that is out of range, or the zeros above N decide.
+-- What the loop over the signals answers: it stops at the first that is out of range, or the zeros above N decide.
 use Prim.Native.Nat.{ℕ, _+_, _-_, _*_, _<_, _≤_}
 use mathlib.Core.Path.{_≡_, _∙_, sym}
 use mathlib.Core.Bool.{true, false}
