@@ -1,6 +1,6 @@
 -- A line is judged at its place as the module's layout judges it.
 use Prim.Native.Nat.{ℕ, _+_, _*_}
-use mathlib.Core.Path.{_≡_, refl, _∙_}
+use mathlib.Core.Path.{_≡_, refl, _∙_, ap₂}
 use mathlib.Core.Bool.{Bool, true, false, not}
 use mathlib.Core.List.{List}
 use native.Mathlib.Omega.{arith}
@@ -16,20 +16,8 @@ use Rattle.buffers_tables.specs.Tables.{networkIn, moduleIn}
 use Rattle.buffers_range_program.specs.Ranges.{lineRanged}
 use Rattle.instruction.specs.Sender.{senderLaid}
 use Rattle.buffers_range_program.specs.Order.{pairRanged, pairAt, operandsAt, lineAt}
+use Rattle.logic.proofs.Tests.{all-four}
 use Rattle.logic.proofs.Judged.{and-false}
-
-and-same : (a b c d : Bool) → a ≡ c → b ≡ d → a and b ≡ c and d
-and-same a b c d e f = rw (e, f)
-
-all-four : (f : ℕ → Bool) → all 4 f ≡ f 0 and f 1 and f 2 and f 3
-unfolding all _and_
-all-four f = go (f 0) (f 1) (f 2) (f 3)
-  where
-    go : (a b c d : Bool) → (((true and a) and b) and c) and d ≡ a and b and c and d
-    go false b c d = refl
-    go true false c d = refl
-    go true true false d = refl
-    go true true true d = refl
 
 -- a pair in the words of the layout
 pair-order : (slots most part k : ℕ)
@@ -56,9 +44,9 @@ module _ (panel program : List ℕ) (p i : ℕ) where
   unfolding operandsAt
   operands-order =
       all-four (operandLayout (moduleIn panel program) p i)
-      ∙ and-same _ _ _ _ (operand-order 0 (lineIn p i + 2) (omega arith))
-      (and-same _ _ _ _ (operand-order 1 (lineIn p i + 4) (omega arith))
-      (and-same _ _ _ _ (operand-order 2 (lineIn p i + 6) (omega arith)) (operand-order 3 (lineIn p i + 8) (omega arith))))
+      ∙ ap₂ _and_ (operand-order 0 (lineIn p i + 2) (omega arith))
+      (ap₂ _and_ (operand-order 1 (lineIn p i + 4) (omega arith))
+      (ap₂ _and_ (operand-order 2 (lineIn p i + 6) (omega arith)) (operand-order 3 (lineIn p i + 8) (omega arith))))
 
   send-order : sendLayout (moduleIn panel program) p i ≡ pairAt program (lineIn p i + 10) 1 (slotsIn panel)
   unfolding moduleIn sendLayout locationLayout
@@ -69,4 +57,4 @@ module _ (panel program : List ℕ) (p i : ℕ) where
   pub line-order : (place : ℕ) → place ≡ lineIn p i
       → lineRanged (networkIn panel program) (moduleIn panel program) p i ≡ lineAt program place (signalsIn panel) (processorsIn panel) (slotsIn panel)
   unfolding lineRanged networkIn moduleIn senderLayout lineAt senderLaid
-  line-order place e = rw e (and-same _ _ _ _ refl (and-same _ _ _ _ operands-order (and-same _ _ _ _ send-order refl)))
+  line-order place e = rw e (ap₂ _and_ refl (ap₂ _and_ operands-order (ap₂ _and_ send-order refl)))

@@ -7,49 +7,19 @@ use mathlib.Core.List.{List}
 use native.Mathlib.Omega.{arith}
 use lib.Dec.{ltb}
 use lib.ListN.{getD}
-use borrow.Author.Tests.{ltb-true, ltb-false, lt-ltb, le-ltb}
-use Rattle.logic.specs.Test.{_and_}
+use borrow.Author.Tests.{ltb-true, ltb-false}
 use Rattle.logic.proofs.Tests.{and-true, and-left, and-right, all-at, all-true}
 use Rattle.logic.specs.Choice.{if_then_else_}
 use Rattle.buffers_memory.specs.Memory.{within}
+use Rattle.buffers_memory.proofs.Regions.{is-within, within-true, within-false, no-processor, no-location}
 use Rattle.buffers_tables.specs.Panel.{signalsIn, processorsIn, slotsIn}
 use Rattle.buffers_tables.specs.Tables.{networkIn, moduleIn}
 use Rattle.buffers_runs.specs.Zeros.{zeros}
 use Rattle.buffers_range_program.specs.Ranges.{lineRanged, programRanged}
 use Rattle.buffers_range_program.specs.Order.{lineAt, slotAt, slotsAt}
-use Rattle.logic.proofs.Judged.{and-false, no, same-test}
+use Rattle.logic.proofs.Judged.{same-test}
 use Rattle.buffers_runs.proofs.Runs.{zeros-byte, zeros-true}
 use Rattle.buffers_range_program.proofs.Lines.{line-order}
-
--- in and out of P processors and C slots
-module _ (processors slots p i : ℕ) where
-  pub within-true : p < processors → i < slots → within processors slots p i ≡ true
-  unfolding within
-  within-true a b = and-true _ _ (lt-ltb p processors a) (lt-ltb i slots b)
-
-  pub within-processor : within processors slots p i ≡ true → p < processors
-  unfolding within
-  within-processor e = ltb-true p processors (and-left _ _ e)
-
-  pub within-slot : within processors slots p i ≡ true → i < slots
-  unfolding within
-  within-slot e = ltb-true i slots (and-right _ _ e)
-
-  pub without-processor : processors ≤ p → within processors slots p i ≡ false
-  unfolding within
-  without-processor a = no _ _ (le-ltb p processors a)
-
-  pub without-slot : slots ≤ i → within processors slots p i ≡ false
-  unfolding within
-  without-slot b = rw (le-ltb i slots b) (and-false (ltb p processors))
-
-  pub without-cases : within processors slots p i ≡ false → (processors ≤ p) ⊎ (slots ≤ i)
-  unfolding within _and_
-  without-cases = go (ltb p processors) refl
-    where
-      go : (b : Bool) → ltb p processors ≡ b → b and ltb i slots ≡ false → (processors ≤ p) ⊎ (slots ≤ i)
-      go false e h = inl (ltb-false p processors e)
-      go true e h = inr (ltb-false i slots h)
 
 module _ (panel program : List ℕ) where
   abbrev pub used : ℕ → Bool
@@ -71,7 +41,7 @@ module _ (panel program : List ℕ) where
     used-line p i pl il pu iu =
         let r : (16 * i + p) % 16 ≡ p = omega arith in
         let q : (16 * i + p) / 16 ≡ i = omega arith in
-        rw (r, q, within-true (processorsIn panel) (slotsIn panel) p i pu iu) at (line-test (16 * i + p) (omega arith))
+        rw (r, q, is-within (processorsIn panel) (slotsIn panel) p i pu iu) at (line-test (16 * i + p) (omega arith))
 
     pub unused-byte : (x : ℕ) → x < 53248 → used (x / 13) ≡ false → getD program x 0 ≡ 0
     unused-byte x l e = zeros-byte program (13 * (x / 13)) 13 (rw e at (line-test (x / 13) (omega arith))) x (omega arith) (omega arith)
@@ -94,14 +64,14 @@ module _ (panel program : List ℕ) (few : processorsIn panel ≤ 16) (short : s
       (all-true _ P (λ p b.
       sym (line-order panel program p i (208 * i + 13 * p) (omega arith)) ∙ used-line panel program h p i (omega arith) (omega arith) b l))
       (zeros-true program (208 * i + 13 * P) (13 * (16 - P)) (λ x low high.
-      unused-byte panel program h x (omega arith) (without-processor P C (x / 13 % 16) (x / 13 / 16) (omega arith))))
+      unused-byte panel program h x (omega arith) (no-processor P C (x / 13 % 16) (x / 13 / 16) (omega arith))))
 
   ranged-order : programRanged panel program ≡ true → inOrder ≡ true
   unfolding slotsAt
   ranged-order h =
       and-true _ _ (all-true _ C (slot-holds h))
       (zeros-true program (208 * C) (208 * (256 - C)) (λ x low high.
-      unused-byte panel program h x (omega arith) (without-slot P C (x / 13 % 16) (x / 13 / 16) (omega arith))))
+      unused-byte panel program h x (omega arith) (no-location P C (x / 13 % 16) (x / 13 / 16) (omega arith))))
 
   module _ (h : inOrder ≡ true) where
     slot-there : (i : ℕ) → i < C → slotAt program i (signalsIn panel) P C ≡ true
@@ -136,8 +106,8 @@ module _ (panel program : List ℕ) (few : processorsIn panel ≤ 16) (short : s
             → (if b then lineRanged (networkIn panel program) (moduleIn panel program) (k % 16) (k / 16) else zeros program (13 * k) 13) ≡ true
         go true e =
             line-order panel program (k % 16) (k / 16) (208 * (k / 16) + 13 * (k % 16)) (omega arith)
-            ∙ line-there (k % 16) (k / 16) (within-processor P C (k % 16) (k / 16) e) (within-slot P C (k % 16) (k / 16) e)
-        go false e = zeros-true program (13 * k) 13 (λ x low high. unused-there k x l (without-cases P C (k % 16) (k / 16) e) low high)
+            ∙ (let low = within-true P C (k % 16) (k / 16) e in line-there (k % 16) (k / 16) (low .0) (low .1))
+        go false e = zeros-true program (13 * k) 13 (λ x low high. unused-there k x l (within-false P C (k % 16) (k / 16) e) low high)
 
     order-ranged : programRanged panel program ≡ true
     unfolding programRanged

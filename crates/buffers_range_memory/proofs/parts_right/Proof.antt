@@ -1,11 +1,11 @@
 -- The invariant: the first j parts are in range.
 use Prim.Native.Nat.{_-_, _*_, _≤_}
-use mathlib.Core.Path.{_≡_, sym}
+use mathlib.Core.Path.{_≡_, sym, _∙_, ap}
 use mathlib.Core.Bool.{true}
 use Rattle.logic.specs.Test.{all}
-use Rattle.logic.proofs.Tests.{all-more, all-fails, all-ends}
+use Rattle.logic.proofs.Tests.{all-ends}
+use Rattle.logic.proofs.Loops.{loop-goes-on, loop-fails}
 use Rattle.buffers_range_memory.specs.Order.{valuesIn, partAt, partsAt}
-use Rattle.logic.proofs.Judged.{fails, passes}
 use borrow.Author.Needs.{needs}
 use native.Mathlib.Omega.{arith}
 use Rattle.buffers_range_memory.proofs.parts_right.Statement.{statement}
@@ -28,7 +28,7 @@ returns c =
     let values-in = c .before .before .values-in in
     let part-right = c .before .part-right in
     let if1 = c .if1 in
-    sym (all-fails _ 80 _ (loop-test .taken) (rw (← values-in .ensures .0) (fails _ _ (part-right .ensures) (if1 .taken))))
+    sym (loop-fails _ _ (part-right .ensures ∙ ap (partAt _ _) (values-in .ensures .0)) 80 (loop-test .taken) (if1 .taken))
 
 loop-again : tie.Need-loop-again Inv-loop μ-loop
 loop-again c =
@@ -36,7 +36,7 @@ loop-again c =
     let values-in = c .before .before .values-in in
     let part-right = c .before .part-right in
     let if1 = c .if1 in
-    (omega arith, all-more _ _ (loop .inv .1) (rw (← values-in .ensures .0) (passes _ _ (part-right .ensures) (if1 .left))))
+    (omega arith, loop-goes-on _ _ (part-right .ensures ∙ ap (partAt _ _) (values-in .ensures .0)) (loop .inv .1) (if1 .left))
 
 returns-2 : tie.Need-returns-2 Inv-loop μ-loop
 unfolding partsAt
