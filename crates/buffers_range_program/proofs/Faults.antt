@@ -13,14 +13,14 @@ use Rattle.logic.proofs.Judged.{same-test, yes}
 
 module _ (slots most part k : ℕ) (parts : most < 9) (some : 1 ≤ slots) where
   -- a pair that is none has a part above most
-  pub none-fault : one (eqb (part + 256 * k) 9) ≤ one (leb (most + 1) part)
+  none-fault : one (eqb (part + 256 * k) 9) ≤ one (leb (most + 1) part)
   none-fault = go (eqb (part + 256 * k) 9) refl
     where
       go : (b : Bool) → eqb (part + 256 * k) 9 ≡ b → one b ≤ one (leb (most + 1) part)
       go true e = let q = eqb-true (part + 256 * k) 9 e in rw (le-leb (most + 1) part (omega arith)) (omega arith)
       go false e = omega arith
 
-  pub pair-fault : eqb (one (leb (most + 1) part) + one (leb slots k) - one (eqb (part + 256 * k) 9)) 0 ≡ pairRanged slots most part k
+  pair-fault : eqb (one (leb (most + 1) part) + one (leb slots k) - one (eqb (part + 256 * k) 9)) 0 ≡ pairRanged slots most part k
   unfolding pairRanged _and_
   pair-fault = go (eqb (part + 256 * k) 9) refl (leb (most + 1) part) refl (leb slots k) refl
     where
@@ -49,14 +49,14 @@ module _ (slots most part k : ℕ) (parts : most < 9) (some : 1 ≤ slots) where
 -- the same of the counts that the code makes, x, l and n, of the numbers that it reads
 module _ {x l n p′ k′ w slots most part k : ℕ} (parts : most < 9) (some : 1 ≤ slots) (p-is : p′ ≡ part) (k-is : k′ ≡ k)
     (w-is : w ≡ part + 256 * k) (x-is : x ≡ one (leb (most + 1) p′)) (l-is : l ≡ one (leb slots k′)) (n-is : n ≡ one (eqb w 9)) where
-  pub counted-low : n ≤ x
-  counted-low = rw (n-is, x-is, w-is, p-is) (none-fault slots most part k parts some)
-
-  pub counted-none : eqb (x + l - n) 0 ≡ pairRanged slots most part k
-  counted-none = rw (n-is, x-is, l-is, w-is, p-is, k-is) (pair-fault slots most part k parts some)
+  pub counted-faults : (n ≤ x) × (eqb (x + l - n) 0 ≡ pairRanged slots most part k)
+  counted-faults = (
+    rw (n-is, x-is, w-is, p-is) (none-fault slots most part k parts some),
+    rw (n-is, x-is, l-is, w-is, p-is, k-is) (pair-fault slots most part k parts some),
+  )
 
 -- two and four counts
-pub both-none : (a b : ℕ) (p q : Bool) → eqb a 0 ≡ p → eqb b 0 ≡ q → eqb (a + b) 0 ≡ p and q
+both-none : (a b : ℕ) (p q : Bool) → eqb a 0 ≡ p → eqb b 0 ≡ q → eqb (a + b) 0 ≡ p and q
 both-none a b p q e f =
     rw (← e, ← f)
     (same-test (eqb (a + b) 0) (eqb a 0 and eqb b 0)
@@ -69,7 +69,7 @@ four-none a b c d p q r s e f g h =
     let l : a + b + c + d ≡ a + (b + (c + d)) = omega arith in
     rw l (both-none a (b + (c + d)) p (q and r and s) e (both-none b (c + d) q (r and s) f (both-none c d r s g h)))
 
--- a chain of two judgements by their counts: it chain-stops where there is a fault, and else goes on
+-- a chain of two judgements by their counts: it stops where there is a fault, and else goes on
 module _ (a b : ℕ) (p q rest : Bool) (e : eqb a 0 ≡ p) (f : eqb b 0 ≡ q) where
   pub faults-stop : (a + b ≡ 0 → ⊥) → p and q and rest ≡ false
   unfolding _and_

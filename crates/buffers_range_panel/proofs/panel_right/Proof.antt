@@ -3,7 +3,7 @@ use Prim.Native.Nat.{_+_, _-_, _≤_}
 use mathlib.Core.Path.{_≡_, sym, _∙_}
 use mathlib.Core.Bool.{true}
 use Rattle.logic.specs.Test.{all}
-use Rattle.logic.proofs.Tests.{all-more}
+use Rattle.logic.proofs.Loops.{loop-goes-on}
 use Rattle.buffers_range_panel.specs.Ranges.{signalRanged, panelRanged}
 use Rattle.logic.proofs.Judged.{chain-stops, fails, passes}
 use Rattle.buffers_range_panel.proofs.Numbers.{head-numbers}
@@ -49,7 +49,7 @@ loop-again c =
     let loop = c .before .before .before .loop in
     let signal-right = c .before .signal-right in
     let if2 = c .if2 in
-    (loop .inv .0, omega arith, all-more _ _ (loop .inv .2) (passes _ _ (signal-right .ensures) (if2 .left)))
+    (loop .inv .0, omega arith, loop-goes-on _ _ (signal-right .ensures) (loop .inv .2) (if2 .left))
 
 returns-3 : tie.Need-returns-3 Inv-loop μ-loop
 returns-3 c =
