@@ -6,11 +6,10 @@ use mathlib.Core.List.{List}
 use native.Mathlib.Omega.{arith}
 use native.Mathlib.Decide.{ℕ-discrete}
 use lib.ListN.{length, getD}
-use borrow.Author.Tests.{le-leb, ltb-true}
+use borrow.Author.Tests.{le-leb}
 use Rattle.logic.specs.Test.{_and_}
 use Rattle.logic.specs.Listed.{listed}
 use Rattle.logic.proofs.Listed.{listed-length, listed-at, is-listed}
-use Rattle.logic.proofs.Tests.{and-left, and-right}
 use Rattle.model.specs.Refusal.{pass}
 use Rattle.model.specs.Network.{isSignal}
 use Rattle.model.specs.Netlist.{netSize, network, netCheck}
@@ -21,6 +20,7 @@ use Rattle.model.specs.Stimulus.{held as given}
 use Rattle.model.proofs.Accepted.{net-size, mod-slot}
 use Rattle.buffers_memory.specs.Memory.{memoryLength, within, written}
 use Rattle.buffers_memory.proofs.Written.{Place}
+use Rattle.buffers_memory.proofs.Regions.{within-true}
 use Rattle.buffers_tables.specs.Panel.{panelLength}
 use Rattle.buffers_load.specs.Loaded.{timeZero, placeOf, panelByte, panelWith, panelOf, openingWith, openingBytes}
 use Rattle.buffers_load.specs.Checked.{ModuleChecked}
@@ -115,7 +115,6 @@ module _ (net stim values : List ℕ) (e : values ≡ listed 4097 (timeZero net 
       byte-same : (a : ℕ) → a < memoryLength
           → openingByte modfile (valueIn values) (a / 1280) (a % 1280 / 256) (a % 256)
           ≡ openingByte modfile (start (network net) (given stim 0)) (a / 1280) (a % 1280 / 256) (a % 256)
-      unfolding within
       byte-same a b = go (within (modProcessors modfile) (modSlots modfile) (a / 1280) (a % 256)) refl
         where
           there : Place (a / 1280) (a % 1280 / 256) (a % 256)
@@ -129,10 +128,10 @@ module _ (net stim values : List ℕ) (e : values ≡ listed 4097 (timeZero net 
               parts (ℕ-discrete (a % 1280 / 256) 0) (ℕ-discrete (a % 1280 / 256) 2) (ℕ-discrete (a % 1280 / 256) 3)
             where
               low-p : a / 1280 < modProcessors modfile
-              low-p = ltb-true _ _ (and-left _ _ w)
+              low-p = within-true _ _ _ _ w .0
 
               low-k : a % 256 < modSlots modfile
-              low-k = ltb-true _ _ (and-right _ _ w)
+              low-k = within-true _ _ _ _ w .1
 
               parts : Dec (a % 1280 / 256 ≡ 0) → Dec (a % 1280 / 256 ≡ 2) → Dec (a % 1280 / 256 ≡ 3)
                   → openingByte modfile (valueIn values) (a / 1280) (a % 1280 / 256) (a % 256)

@@ -8,7 +8,7 @@ use Rattle.model.specs.Machine.{Memory, fetch}
 use Rattle.model.proofs.Machine.{Near}
 use Rattle.buffers_memory.specs.Memory.{blank, memoryOf, within, withMemory}
 use Rattle.buffers_memory.proofs.Written.{Agree, written-at, written-here, written-same, written-over, fetch-bytes}
-use Rattle.buffers_memory.proofs.Regions.{within-true, within-test}
+use Rattle.buffers_memory.proofs.Regions.{within-true, is-within}
 
 pub agree-near : (m : Module) (w u : Memory) → Near m w u → Agree (within (m .processors) (m .slots)) w u
 unfolding fetch
@@ -31,7 +31,7 @@ module _ (m : Module) (few : m .processors ≤ 16) (short : m .slots ≤ 256) wh
         let s = a .slot in
         fetch-bytes (withMemory (m .processors) (m .slots) w old) p part k h
         ∙ written-at (within (m .processors) (m .slots)) w old (record { processor-low = omega arith; part-low = omega arith; location-low = omega arith })
-        ∙ written-here (within (m .processors) (m .slots)) w old p part k (within-test (m .processors) (m .slots) p k l s) h
+        ∙ written-here (within (m .processors) (m .slots)) w old p part k (is-within (m .processors) (m .slots) p k l s) h
 
     pub with-memory-near : Near m (memoryOf (withMemory (m .processors) (m .slots) w old)) w
     unfolding fetch

@@ -10,8 +10,8 @@ use Rattle.logic.proofs.Tests.{and-true, and-left, and-right, or-cases, or-left
 use Rattle.model.specs.Network.{Network}
 use Rattle.model.specs.Module.{Module, At, Laid, localPresent, switchPresent, noPart, noSender}
 use Rattle.model.specs.ModuleFile.{locationLayout, operandLayout, sendLayout, senderLayout}
-use Rattle.model.proofs.Accepted.{Located}
-use Rattle.buffers_range.specs.Ranges.{lineRanged}
+use Rattle.model.proofs.Accepted.{Located, located}
+use Rattle.buffers_range_program.specs.Ranges.{lineRanged}
 
 -- the line of processor p and slot i
 pub record Line (n : Network) (m : Module) (p i : ℕ) : Type 0 where
@@ -20,29 +20,16 @@ pub record Line (n : Network) (m : Module) (p i : ℕ) : Type 0 where
   pub send : Located m localPresent (m .sendPart p i) (m .sendLocation p i)
   pub sender : (m .sender p i < m .processors) ⊎ (m .sender p i ≡ noSender)
 
--- a pair
-module _ (m : Module) (most part k : ℕ) where
-  abbrev pair : Bool
-  pair = (leb part most or eqb part noPart) and locationLayout m part k
-
-  pair-located : pair ≡ true → Located m most part k
-  unfolding locationLayout _or_
-  pair-located h =
-      record {
-        part-known = ⊎-elim (λ e. inl (leb-true _ _ e)) (λ e. inr (eqb-true _ _ e)) (or-cases _ _ (and-left _ _ h));
-        low = ltb-true _ _ (and-left _ _ (and-right _ _ h));
-        none-at-0 = λ e. eqb-true _ _ (rw (eq-eqb part noPart e) at (and-right _ _ (and-right _ _ h)));
-      }
-
-  located-pair : Located m most part k → pair ≡ true
-  unfolding locationLayout
-  located-pair h =
-      and-true _ _ (⊎-elim (λ l. or-left _ _ (le-leb _ _ l)) (λ e. or-right _ _ (eq-eqb _ _ e)) (h .part-known))
-      (and-true _ _ (lt-ltb _ _ (h .low)) (go (eqb part noPart) refl))
-    where
-      go : (b : Bool) → eqb part noPart ≡ b → not b or eqb k 0 ≡ true
-      go true e = or-right _ _ (eq-eqb k 0 (h .none-at-0 (eqb-true part noPart e)))
-      go false e = or-left _ _ refl
+-- a pair that is located, in the words of the layout; `located` is the way back
+located-pair : (m : Module) (most part k : ℕ) → Located m most part k → (leb part most or eqb part noPart) and locationLayout m part k ≡ true
+unfolding locationLayout
+located-pair m most part k h =
+    and-true _ _ (⊎-elim (λ l. or-left _ _ (le-leb _ _ l)) (λ e. or-right _ _ (eq-eqb _ _ e)) (h .part-known))
+    (and-true _ _ (lt-ltb _ _ (h .low)) (go (eqb part noPart) refl))
+  where
+    go : (b : Bool) → eqb part noPart ≡ b → not b or eqb k 0 ≡ true
+    go true e = or-right _ _ (eq-eqb k 0 (h .none-at-0 (eqb-true part noPart e)))
+    go false e = or-left _ _ refl
 
 module _ (n : Network) (m : Module) where
   pub ranged-line : (p i : ℕ) → lineRanged n m p i ≡ true → Line n m p i
@@ -52,8 +39,8 @@ module _ (n : Network) (m : Module) where
       let send = and-right _ _ operands in
       record {
         signal = leb-true _ _ (and-left _ _ h);
-        operand = λ j l. pair-located m switchPresent (m .part p i j) (m .location p i j) (all-at _ 4 (and-left _ _ operands) j l);
-        send = pair-located m localPresent (m .sendPart p i) (m .sendLocation p i) (and-left _ _ send);
+        operand = λ j l. located m switchPresent (m .part p i j) (m .location p i j) (all-at _ 4 (and-left _ _ operands) j l);
+        send = located m localPresent (m .sendPart p i) (m .sendLocation p i) (and-left _ _ send);
         sender = ⊎-elim (λ e. inl (ltb-true _ _ e)) (λ e. inr (eqb-true _ _ e)) (or-cases _ _ (and-right _ _ send));
       }
 

@@ -1,9 +1,2 @@
-pub mod Runs
-pub mod Numbers
-pub mod Signals
-pub mod Faults
-pub mod Lines
-pub mod Slots
-pub mod Parts
 pub mod Laid
 pub mod Ranged

@@ -14,16 +14,20 @@ use Rattle.logic.specs.Choice.{if_then_else_}
 use Rattle.model.specs.Module.{At}
 use Rattle.buffers_memory.specs.Memory.{memoryLength, blank, place, within, MemoryBytes}
 use Rattle.buffers_memory.proofs.Written.{Place, place-low, byte-place, byte-is}
+use Rattle.buffers_memory.proofs.Regions.{within-true}
 use Rattle.buffers_tables.specs.Panel.{panelLength, signalsIn, processorsIn, slotsIn}
 use Rattle.buffers_tables.specs.Program.{programLength, lineIn}
 use Rattle.buffers_tables.specs.Tables.{networkIn, moduleIn, Tables}
-use Rattle.buffers_range.specs.Ranges.{zeros, lineRanged, programRanged, memoryRanged, ranged}
+use Rattle.buffers_runs.specs.Zeros.{zeros}
+use Rattle.buffers_range_program.specs.Ranges.{lineRanged, programRanged}
+use Rattle.buffers_range_memory.specs.Ranges.{memoryRanged}
+use Rattle.buffers_range.specs.Ranges.{ranged}
 use Rattle.logic.proofs.Judged.{and-false}
-use Rattle.buffers_range.proofs.Runs.{zeros-true}
-use Rattle.buffers_range.proofs.Numbers.{Head, Numbers, Panel, ranged-panel, panel-ranged}
+use Rattle.buffers_runs.proofs.Runs.{zeros-true}
+use Rattle.buffers_range_panel.proofs.Numbers.{Head, Numbers, Panel, ranged-panel, panel-ranged}
 use Rattle.buffers_range.proofs.Laid.{Line, ranged-line, line-ranged, lines-laid}
-use Rattle.buffers_range.proofs.Slots.{within-processor, within-slot, lineTest, used, used-line, unused-byte}
-use Rattle.buffers_range.proofs.Parts.{limit}
+use Rattle.buffers_range_program.proofs.Slots.{lineTest, used, used-line, unused-byte}
+use Rattle.buffers_range_memory.proofs.Parts.{limit}
 
 -- the program: lines of P processors and C slots, and zeros
 pub record Program (panel program : List ℕ) : Type 0 where
@@ -63,7 +67,7 @@ module _ (panel program : List ℕ) where
       go k l true e =
           line-ranged (networkIn panel program) (moduleIn panel program) (k % 16) (k / 16)
           (h .lines (k % 16) (k / 16)
-          (record { processor = within-processor _ _ (k % 16) (k / 16) e; slot = within-slot _ _ (k % 16) (k / 16) e }))
+          (let low = within-true _ _ (k % 16) (k / 16) e in record { processor = low .0; slot = low .1 }))
       go k l false e =
           zeros-true program (13 * k) 13 (λ x low high.
           let q : lineIn (k % 16) (k / 16) + (x - 13 * k) ≡ x = omega arith in

@@ -10,7 +10,7 @@ use lib.Dec.{eqb}
 use lib.ListN.{length, getD}
 use borrow.Author.Tests.{le-leb, lt-leb}
 use Rattle.logic.specs.Test.{_and_, all}
-use Rattle.logic.proofs.Tests.{and-true, all-more, all-fails}
+use Rattle.logic.proofs.Tests.{and-true, all-more, all-fails, all-four}
 use Rattle.fields.specs.Field.{isFieldAt}
 use Rattle.fields.specs.Line.{isLineAt}
 use Rattle.model.specs.Refusal.{Check, fail, pass, first, unless, firstBelow}
@@ -26,13 +26,7 @@ use Rattle.file_mod_lines.specs.Layout.{pairLaid, operandsAt, lineAt}
 use Rattle.logic.proofs.Judged.{and-false}
 
 pub all-4 : (f : ℕ → Bool) → all 4 f ≡ f 0 and f 1 and f 2 and f 3
-unfolding all _and_
-all-4 f = four (f 0) (f 1) (f 2) (f 3)
-  where
-    four : (a b c d : Bool) → ((a and b) and c) and d ≡ a and b and c and d
-    four true true c d = refl
-    four true false c d = refl
-    four false b c d = refl
+all-4 = all-four
 
 -- a line's layout, by the judgement at its place
 pub line-judged : (n : Network) (l : List ℕ) (p i : ℕ)
@@ -45,7 +39,7 @@ line-judged n l p i =
     let e3 : at + 42 + 6 ≡ at + 48 = omega arith in
     let e4 : at + 54 + 6 ≡ at + 60 = omega arith in
     let e5 : at + 66 + 6 ≡ at + 72 = omega arith in
-    rw (all-4 (operandLayout (moduleOf l) p i), add-zero at, e1, e2, e3, e4, e5) refl
+    rw (all-four (operandLayout (moduleOf l) p i), add-zero at, e1, e2, e3, e4, e5) refl
 
 -- the check of line k after the first
 abbrev pub lineCheck : Network → List ℕ → ℕ → Check

@@ -22,7 +22,7 @@ use Rattle.buffers_memory.proofs.Written.{Place, written-at, written-here}
 use Rattle.buffers_memory.proofs.Regions.{within-true}
 use Rattle.buffers_tables.specs.Panel.{processorsIn, slotsIn, codesIn}
 use Rattle.buffers_tables.specs.Tables.{networkIn, moduleIn}
-use Rattle.buffers_range.proofs.Numbers.{Head}
+use Rattle.buffers_range_panel.proofs.Numbers.{Head}
 use Rattle.buffers_range.proofs.Ranged.{Values, head-ranged, memory-in-range}
 use Rattle.buffers_range.specs.Ranges.{ranged}
 

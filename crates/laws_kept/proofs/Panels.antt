@@ -17,8 +17,8 @@ use Rattle.buffers_tables.specs.Panel.{panelLength, signalsIn, kindIn}
 use Rattle.buffers_tables.specs.Tables.{networkIn, moduleIn}
 use Rattle.session_state.specs.Header.{headIn, withHead}
 use Rattle.session_state.specs.Commands.{withValue}
-use Rattle.buffers_range.specs.Ranges.{codesRanged}
-use Rattle.buffers_range.proofs.Numbers.{Numbers, Panel, input-zeros, zeros-input, supplied-gate, codes-function, codes-translation}
+use Rattle.buffers_range_panel.specs.Ranges.{codesRanged}
+use Rattle.buffers_range_panel.proofs.Numbers.{Numbers, Panel, input-zeros, zeros-input, supplied-gate, codes-function, codes-translation}
 use Rattle.buffers_range.proofs.Laid.{Line}
 use Rattle.buffers_range.proofs.Ranged.{Program}
 use Rattle.laws_kept.specs.Sound.{InRange}

@@ -140,3 +140,13 @@ pub all-same : (p q : ℕ → Bool) (n : ℕ) → ((k : ℕ) → k < n → p k �
 unfolding all
 all-same p q zero h = refl
 all-same p q (suc n) h = rw (all-same p q n (λ k l. h k (omega arith)), h n (omega arith))
+
+-- four tests, the first first
+pub all-four : (p : ℕ → Bool) → all 4 p ≡ p 0 and p 1 and p 2 and p 3
+unfolding all _and_
+all-four p = go (p 0) (p 1) (p 2) (p 3)
+  where
+    go : (a b c d : Bool) → ((a and b) and c) and d ≡ a and b and c and d
+    go true true c d = refl
+    go true false c d = refl
+    go false b c d = refl

@@ -16,7 +16,7 @@ use Rattle.model.specs.Module.{Module, Laid, localPresent, switchPresent, noSen
 use Rattle.model.specs.Machine.{Memory, fetch, result, sent, stored, slot}
 use Rattle.buffers_memory.specs.Memory.{memoryLength, blank, place, memoryOf, writtenAt, written, within, here, withMemory}
 use Rattle.buffers_memory.proofs.Written.{Place, is-written, written-length, written-at, written-here, written-else, written-blank, fetch-bytes, stored-there, stored-else, Agree, written-join, written-kept, written-same}
-use Rattle.buffers_memory.proofs.Regions.{here-is, here-test, here-written, within-true, within-test}
+use Rattle.buffers_memory.proofs.Regions.{here-is, here-test, here-written, within-true, is-within}
 use Rattle.machine_slot.specs.Storing.{evaluated, storing, storedIf, passed, FirstAre}
 
 -- a byte after a store that is made or not
@@ -195,7 +195,7 @@ module _ (m : Module) (i : ℕ) (small : i < m .slots) (p part k : ℕ) where
   unfolding writtenAt
   written-wider w l t =
       let e = passed-is t in
-      rw (t, within-test (m .processors) (m .slots) p k (e .0) (omega (arith, e .1)))
+      rw (t, is-within (m .processors) (m .slots) p k (e .0) (omega (arith, e .1)))
 
   written-narrow : (results sents l : List ℕ) → Place p part k → passed (m .processors) i p k ≡ false
       → writtenAt (passed (m .processors) i) (storing m i results sents (memoryOf l)) l p part k

@@ -176,7 +176,8 @@ pub record SlotRight (n : Network) (modfile : List ℕ) (p i : ℕ) : Type 0 whe
   pub send : Located (moduleOf modfile) localPresent (moduleOf modfile .sendPart p i) (moduleOf modfile .sendLocation p i)
   pub sender : (moduleOf modfile .sender p i < moduleOf modfile .processors) ⊎ (moduleOf modfile .sender p i ≡ noSender)
 
-located : (m : Module) (most part k : ℕ) → (leb part most or eqb part noPart) and locationLayout m part k ≡ true → Located m most part k
+-- such a pair, from its layout
+pub located : (m : Module) (most part k : ℕ) → (leb part most or eqb part noPart) and locationLayout m part k ≡ true → Located m most part k
 unfolding locationLayout
 located m most part k layout =
     let place = and-right _ _ layout in

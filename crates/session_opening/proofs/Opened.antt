@@ -8,10 +8,9 @@ use native.Mathlib.Omega.{arith}
 use native.Mathlib.Decide.{ℕ-discrete}
 use lib.Dec.{ltb}
 use lib.ListN.{getD}
-use borrow.Author.Tests.{ltb-true, ltb-false}
+use borrow.Author.Tests.{ltb-false}
 use Rattle.logic.specs.Test.{_and_}
 use Rattle.logic.proofs.Listed.{listed-at}
-use Rattle.logic.proofs.Tests.{and-left, and-right}
 use Rattle.gates.specs.Function.{isFunction}
 use Rattle.gates.specs.Translation.{isTranslation}
 use Rattle.model.specs.Refusal.{pass}
@@ -28,10 +27,12 @@ use Rattle.model.proofs.Accepted.{net-accepted, mod-accepted, stim-accepted, ne
 use Rattle.model.proofs.Machine.{Small, opening-small}
 use Rattle.buffers_memory.specs.Memory.{blank, place, within}
 use Rattle.buffers_memory.proofs.Written.{Place, written-at}
+use Rattle.buffers_memory.proofs.Regions.{within-true}
 use Rattle.buffers_tables.specs.Panel.{panelLength, signalsIn, processorsIn, slotsIn, kindIn}
 use Rattle.buffers_tables.specs.Tables.{networkIn, moduleIn}
-use Rattle.buffers_range.specs.Ranges.{codesRanged, ranged}
-use Rattle.buffers_range.proofs.Numbers.{Head, Numbers, Panel, zeros-input, supplied-gate}
+use Rattle.buffers_range_panel.specs.Ranges.{codesRanged}
+use Rattle.buffers_range.specs.Ranges.{ranged}
+use Rattle.buffers_range_panel.proofs.Numbers.{Head, Numbers, Panel, zeros-input, supplied-gate}
 use Rattle.buffers_range.proofs.Laid.{Line}
 use Rattle.buffers_range.proofs.Ranged.{Program, Values, is-ranged, head-ranged}
 use Rattle.buffers_load.specs.Loaded.{timeZero, placeOf, panelOf, programOf, openingBytes}
@@ -229,8 +230,8 @@ module _ (net modfile stim : List ℕ) (n : netCheck 4096 net ≡ pass) (m : mod
 
     module _ (inside : within (modProcessors modfile) (modSlots modfile) p k ≡ true) where
       is-at : At (moduleOf modfile) p k
-      unfolding within moduleOf
-      is-at = record { processor = ltb-true _ _ (and-left _ _ inside); slot = ltb-true _ _ (and-right _ _ inside) }
+      unfolding moduleOf
+      is-at = let low = within-true _ _ _ _ inside in record { processor = low .0; slot = low .1 }
 
       inside-code : openingByte modfile zeroth p part k ≤ 3
       unfolding opening sentValue

@@ -3,7 +3,7 @@ use mathlib.Core.Path.{sym}
 use Prim.Native.Nat.{_/_, _%_}
 use Rattle.model.specs.ModuleFile.{modProcessors, modSlots}
 use Rattle.buffers_load.specs.Values.{valueIn}
-use Rattle.buffers_load.proofs.Program.{is-within, no-processor, no-location}
+use Rattle.buffers_memory.proofs.Regions.{is-within, no-processor, no-location}
 use Rattle.buffers_load.proofs.Memory.{place-there, byte-outside, byte-local, byte-sent-earlier, byte-sent-present, byte-other}
 use native.Mathlib.Omega.{arith}
 use borrow.Author.Needs.{needs}

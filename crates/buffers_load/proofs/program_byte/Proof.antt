@@ -2,7 +2,8 @@
 use mathlib.Core.Path.{sym}
 use Prim.Native.Nat.{_/_, _%_}
 use Rattle.model.specs.ModuleFile.{modProcessors, modSlots}
-use Rattle.buffers_load.proofs.Program.{no-processor, no-location, byte-within, byte-without}
+use Rattle.buffers_memory.proofs.Regions.{no-processor, no-location}
+use Rattle.buffers_load.proofs.Program.{byte-within, byte-without}
 use native.Mathlib.Omega.{arith}
 use borrow.Author.Needs.{needs}
 use Rattle.buffers_load.proofs.program_byte.Statement.{statement}

@@ -1,7 +1,7 @@
 -- Panel, program, memory: the first out of range decides. A panel in range bounds P and C, as the other two require.
 use mathlib.Core.Path.{sym, _∙_}
 use Rattle.logic.proofs.Judged.{chain-stops, chain-goes-on, passes}
-use Rattle.buffers_range.proofs.Numbers.{ranged-panel}
+use Rattle.buffers_range_panel.proofs.Numbers.{ranged-panel}
 use Rattle.buffers_range.specs.Ranges.{ranged}
 use borrow.Author.Needs.{needs}
 use Rattle.buffers_range.proofs.in_range.Statement.{statement}

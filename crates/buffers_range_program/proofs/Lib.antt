@@ -1,0 +1,3 @@
+pub mod Faults
+pub mod Lines
+pub mod Slots

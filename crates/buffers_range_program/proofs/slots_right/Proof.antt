@@ -1,0 +1,52 @@
+-- The invariant: the first i slots are in range (`loop-goes-on`); zeros come after the C slots.
+use Prim.Native.Nat.{_-_, _≤_}
+use mathlib.Core.Path.{_≡_, sym, _∙_}
+use mathlib.Core.Bool.{true}
+use Rattle.logic.specs.Test.{all}
+use Rattle.logic.proofs.Loops.{loop-stops, loop-goes-on, loop-ends}
+use Rattle.buffers_range_program.specs.Order.{slotAt, slotsAt}
+use borrow.Author.Needs.{needs}
+use native.Mathlib.Omega.{arith}
+use Rattle.buffers_range_program.proofs.slots_right.Statement.{statement}
+use Rattle.buffers_range_program.proofs.slots_right.Tie as tie
+
+abbrev Inv-loop : tie.InvT-loop
+Inv-loop program signals processors slots count i₀ i = (i ≤ count) × (all i (λ j. slotAt program j signals processors slots) ≡ true)
+
+abbrev μ-loop : tie.MeasureT-loop
+μ-loop program signals processors slots count i₀ i = count - i
+
+loop-holds : tie.Need-loop-holds Inv-loop μ-loop
+unfolding all
+loop-holds c = search needs
+
+returns : tie.Need-returns Inv-loop μ-loop
+unfolding slotsAt
+returns c = sym (loop-stops _ _ (c .before .slot-right .ensures) _ _ (c .before .before .loop-test .taken) (c .if1 .taken))
+
+loop-again : tie.Need-loop-again Inv-loop μ-loop
+loop-again c = (omega arith, loop-goes-on _ _ (c .before .slot-right .ensures) (c .before .before .before .loop .inv .1) (c .if1 .left))
+
+returns-2 : tie.Need-returns-2 Inv-loop μ-loop
+unfolding slotsAt
+returns-2 c =
+    let judged = c .before .before .loop .inv in
+    c .all-zero .ensures ∙ sym (loop-ends _ _ _ _ (judged .0) (c .before .loop-test .left) (judged .1))
+
+pub slots-right-spec : {M : Type 1} → statement M
+slots-right-spec =
+    tie.close
+    (tie.spec
+    Inv-loop
+    μ-loop
+    loop-holds
+    (λ c κs. search needs)
+    returns
+    (λ c. search needs)
+    (λ c. search needs)
+    loop-again
+    (λ c. search needs)
+    (λ c. search needs)
+    (λ c. search needs)
+    (λ c κs. search needs)
+    returns-2)

@@ -1,0 +1,111 @@
+// 44 (01, Refusals), of the program: the lines of P processors and C slots, and zeros.
+
+ghost use mathlib.Core.Path.{_≡_};
+ghost use Prim.Native.Nat.{_+_, _<_, _≤_};
+ghost use lib.Dec.{eqb, leb};
+ghost use lib.ListN.{length};
+ghost use Rattle.logic.specs.Test.{one};
+ghost use Rattle.buffers_tables.specs.Panel.{panelLength, processorsIn, slotsIn};
+ghost use Rattle.buffers_tables.specs.Program.{programLength};
+ghost use Rattle.buffers_range_program.specs.Ranges.{programRanged};
+ghost use Rattle.buffers_range_program.specs.Order.{pairAt, operandsAt, lineAt, slotAt, slotsAt};
+
+// 1 where a number reaches a limit that it has to stay below, else 0.
+fn reaches(x: u16, limit: u16) -> u8
+    ensures { λ r. ⌜ (r ≡ one (leb limit x)) × (r ≤ 1) ⌝ }
+{
+    if limit <= x { 1 } else { 0 }
+}
+
+// 1 where two numbers are equal, else 0.
+fn equals(x: u16, y: u16) -> u8
+    ensures { λ r. ⌜ (r ≡ one (eqb x y)) × (r ≤ 1) ⌝ }
+{
+    if x == y { 1 } else { 0 }
+}
+
+// The faults of the pair at a place: a part above `most`, a location not below C, less one where it is "Part 9 with location 0". Parts
+// follow no pattern that a processor could predict, so faults are counted, not branched on.
+fn pair_faults(program: &[u8], at: usize, most: u16, slots: u16) -> u8
+    requires { ⌜ (at + 2 ≤ length (now program)) × (most < 9) × (1 ≤ slots) ⌝ }
+    ensures { λ r. ⌜ (eqb r 0 ≡ pairAt (now (program .entry)) at most slots) × (r ≤ 2) ⌝ }
+{
+    let part = reaches(words::widened(program[at]), most + 1);
+    let location = reaches(words::widened(program[at + 1]), slots);
+    let none = equals(words::word_at(program, at), 9);
+    part + location - none
+}
+
+// The faults of the four operands of the line at a place: "part 0 to 3 or 9".
+fn operand_faults(program: &[u8], at: usize, slots: u16) -> u8
+    requires { ⌜ (at + 13 ≤ length (now program)) × (1 ≤ slots) ⌝ }
+    ensures { λ r. ⌜ (eqb r 0 ≡ operandsAt (now (program .entry)) at slots) × (r ≤ 8) ⌝ }
+{
+    let first = pair_faults(program, at + 2, 3, slots);
+    let second = pair_faults(program, at + 4, 3, slots);
+    let third = pair_faults(program, at + 6, 3, slots);
+    let fourth = pair_faults(program, at + 8, 3, slots);
+    first + second + third + fourth
+}
+
+// The line at a place: "signal (1 to N, or 0: empty slot)", the operands, "a send 0, 1 or 9", and the processor received from.
+fn line_right(program: &[u8], at: usize, signals: u16, processors: u8, slots: u16) -> bool
+    requires { ⌜ (at + 13 ≤ length (now program)) × (1 ≤ slots) ⌝ }
+    ensures { λ r. ⌜ r ≡ lineAt (now (program .entry)) at signals processors slots ⌝ }
+{
+    if signals < words::word_at(program, at) {
+        return false;
+    }
+    let faults = operand_faults(program, at, slots) + pair_faults(program, at + 10, 1, slots);
+    if faults != 0 {
+        return false;
+    }
+    instruction::sender_right(words::widened(program[at + 12]), words::widened(processors))
+}
+
+// The 16 lines of a slot: those of P processors, and zeros.
+fn slot_right(program: &[u8], slot: usize, signals: u16, processors: u8, slots: u16) -> bool
+    requires { ⌜ (length (now program) ≡ programLength) × (slot < 256) × (processors ≤ 16) × (1 ≤ slots) ⌝ }
+    ensures { λ r. ⌜ r ≡ slotAt (now (program .entry)) slot signals processors slots ⌝ }
+{
+    let at = 208 * slot;
+    let lines = processors as usize;
+    let mut p: usize = 0;
+    while p < lines {
+        if !line_right(program, at + 13 * p, signals, processors, slots) {
+            return false;
+        }
+        p += 1;
+    }
+    buffers_runs::all_zero(program, at + 13 * lines, 13 * (16 - lines))
+}
+
+// The 256 slots: C of them, and zeros.
+fn slots_right(program: &[u8], signals: u16, processors: u8, slots: u16) -> bool
+    requires { ⌜ (length (now program) ≡ programLength) × (processors ≤ 16) × (slots ≤ 256) ⌝ }
+    ensures { λ r. ⌜ r ≡ slotsAt (now (program .entry)) signals processors slots ⌝ }
+{
+    let count = slots as usize;
+    let mut i: usize = 0;
+    while i < count {
+        if !slot_right(program, i, signals, processors, slots) {
+            return false;
+        }
+        i += 1;
+    }
+    buffers_runs::all_zero(program, 208 * count, 208 * (256 - count))
+}
+
+// The program, N, P and C being the panel's.
+pub fn program_right(panel: &[u8], program: &[u8]) -> bool
+    requires { ⌜ (length (now panel) ≡ panelLength) × (length (now program) ≡ programLength) ⌝ }
+    requires { ⌜ (processorsIn (now panel) ≤ 16) × (slotsIn (now panel) ≤ 256) ⌝ }
+    ensures { λ r. ⌜ r ≡ programRanged (now (panel .entry)) (now (program .entry)) ⌝ }
+{
+    slots_right(
+        program,
+        words::word_at(panel, 0),
+        panel[2],
+        words::word_at(panel, 3),
+    )
+}
