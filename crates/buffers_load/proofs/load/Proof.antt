@@ -1,6 +1,7 @@
 -- `load`: the array of values is `timeZero`, and so the buffers by it are the buffers by the files.
 use mathlib.Core.Path.{_∙_}
-use Rattle.buffers_load.proofs.Opening.{schedules, values-size, values-none, panel-zeroth, opening-zeroth}
+use Rattle.buffers_load_files.proofs.Fields.{schedules}
+use Rattle.buffers_load.proofs.Opening.{values-size, values-none, panel-zeroth, opening-zeroth}
 use borrow.Author.Needs.{needs}
 use Rattle.buffers_load.proofs.load.Statement.{statement}
 use Rattle.buffers_load.proofs.load.Tie as tie

@@ -2,7 +2,7 @@
 use mathlib.Core.Path.{sym, _∙_}
 use borrow.Author.Tests.{not-true, not-false}
 use Rattle.model.proofs.Accepted.{net-accepted, mod-accepted, stim-accepted}
-use Rattle.buffers_load.specs.Loaded.{panelOf, programOf, openingBytes}
+use Rattle.buffers_load_files.specs.Loaded.{panelOf, programOf, openingBytes}
 use Rattle.buffers_lengths.proofs.Sizes.{same-sizes}
 use Rattle.session_opening.proofs.Outcome.{wrong-length, right-length, files-accepted, files-refused, refused-bits, refused-left, accepted-bits, accepted-left}
 use borrow.Author.Needs.{needs}
