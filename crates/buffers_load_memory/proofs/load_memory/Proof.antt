@@ -1,6 +1,5 @@
 -- The first a bytes are those of the opening memory.
 use Prim.Native.Nat.{_-_, _/_, _%_}
-use mathlib.Core.Path.{_∙_, sym}
 use native.Mathlib.Omega.{arith}
 use borrow.Author.Needs.{needs}
 use Rattle.buffers_memory.specs.Memory.{memoryLength, written}

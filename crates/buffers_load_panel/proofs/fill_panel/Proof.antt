@@ -1,6 +1,5 @@
 -- The first a bytes are those of the panel.
 use Prim.Native.Nat.{_-_, _/_, _%_}
-use mathlib.Core.Path.{_∙_, sym}
 use native.Mathlib.Omega.{arith}
 use borrow.Author.Needs.{needs}
 use Rattle.buffers_tables.specs.Panel.{panelLength}

@@ -12,15 +12,21 @@ load-places-requires c κs = (c .before .before .before .before .before .pre .1 
 
 fill-panel-requires : tie.Need-fill-panel-requires
 fill-panel-requires c κs =
-    let s = c .before .before .before .before .before .before .before .before .before .before .before in
-    let slots = c .before .before .slots-of in
-    let placed = placed-lines (s .pre .1 .0) _ _ (slots .ensures .0) (c .before .before .before .before .before .load-places .ensures) in
-    (s .pre .0, ((c .before .before .before .processors-of .ensures .2, slots .ensures .1, slots .ensures .2, s .pre .1 .1 .1), (s .pre .1 .1 .0, placed)))
+    let slots = c .before .before in
+    let processors = slots .before in
+    let places = processors .before .before in
+    let s = places .before .before .before .before .before .before in
+    let lines = placed-lines (s .pre .1 .0) _ _ (slots .slots-of .ensures .0) (places .load-places .ensures) in
+    (s .pre .0, ((processors .processors-of .ensures .2, slots .slots-of .ensures .1, slots .slots-of .ensures .2, s .pre .1 .1 .1), (s .pre .1 .1 .0, lines)))
 
 returns : tie.Need-returns
 returns c =
-    let s = c .before .before .before .before .before .before .before .before .before .before .before .before .before .before in
-    panel-placed (s .args .net .now) (s .args .modfile .now) (s .pre .0) _ _ _ _ (c .before .before .before .before .before .before .processors-of .ensures .0) (c .before .before .before .before .before .slots-of .ensures .0) (c .before .before .before .before .before .before .before .before .load-places .ensures) _ (c .before .before .fill-panel .ensures)
+    let filled = c .before .before in
+    let slots = filled .before .before .before in
+    let processors = slots .before in
+    let places = processors .before .before in
+    let s = places .before .before .before .before .before .before in
+    panel-placed (s .args .net .now) (s .args .modfile .now) (s .pre .0) _ _ _ _ (processors .processors-of .ensures .0) (slots .slots-of .ensures .0) (places .load-places .ensures) _ (filled .fill-panel .ensures)
 
 pub load-panel-spec : {M : Type 1} → statement M
 load-panel-spec =

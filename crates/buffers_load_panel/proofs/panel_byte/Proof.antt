@@ -33,10 +33,12 @@ signal-byte-requires c κs =
 
 returns-3 : tie.Need-returns-3
 returns-3 c =
-    let s = c .before .before .before .before .before .before .before .before .before in
+    let index = c .before in
+    let test = index .before .before .before .before in
+    let s = test .before .before .before .before in
     rw (
-      panel-signal (s .args .net .now) (s .args .processors) (s .args .slots) (valueIn (s .args .places .now)) (valueIn (s .args .values .now)) (s .args .a % 10) (s .args .a / 10) (c .before .before .before .before .before .if1 .left) (omega (arith, s .pre .1 .0 .0)),
-      ← c .before .line-index .ensures,
+      panel-signal (s .args .net .now) (s .args .processors) (s .args .slots) (valueIn (s .args .places .now)) (valueIn (s .args .values .now)) (s .args .a % 10) (s .args .a / 10) (test .if1 .left) (omega (arith, s .pre .1 .0 .0)),
+      ← index .line-index .ensures,
     ) (c .signal-byte .ensures)
 
 pub panel-byte-spec : {M : Type 1} → statement M

@@ -1,6 +1,5 @@
 -- The first a bytes are those of the program.
 use Prim.Native.Nat.{_-_, _/_, _%_}
-use mathlib.Core.Path.{_∙_, sym}
 use borrow.Author.Needs.{needs}
 use Rattle.buffers_tables.specs.Program.{programLength}
 use Rattle.buffers_load_files.specs.Loaded.{programByte, programOf}
