@@ -20,12 +20,13 @@ use Rattle.buffers_tables.specs.Panel.{panelLength, signalsIn, slotsIn, finishe
 use Rattle.buffers_tables.specs.Program.{programLength, lineIn, signalAt, partAt, locationAt}
 use Rattle.buffers_tables.specs.Tables.{moduleIn, networkIn, Tables}
 use Rattle.buffers_tables.specs.Holding.{SameLines, Holding}
-use Rattle.buffers_load.specs.Loaded.{timeZero, placeOf, headBytes, signalBytes, panelByte, panelWith, panelOf, lineBytes, programByte, programOf}
-use Rattle.buffers_load.specs.Checked.{ModuleChecked}
-use Rattle.buffers_load.proofs.Program.{byte-within}
-use Rattle.buffers_load.proofs.Panel.{panel-signal}
-use Rattle.buffers_load.proofs.Places.{place-there, place-has}
-use Rattle.buffers_load.proofs.Opening.{schedules, zeroth-is}
+use Rattle.buffers_load_files.specs.Loaded.{timeZero, placeOf, headBytes, signalBytes, panelByte, panelWith, panelOf, lineBytes, programByte, programOf}
+use Rattle.buffers_load_files.specs.Checked.{ModuleChecked}
+use Rattle.buffers_load_program.proofs.Program.{byte-within}
+use Rattle.buffers_load_panel.proofs.Panel.{panel-signal}
+use Rattle.buffers_load_panel.proofs.Places.{place-there, place-has}
+use Rattle.buffers_load_files.proofs.Fields.{schedules}
+use Rattle.buffers_load.proofs.Opening.{zeroth-is}
 
 -- lines in range stay so
 same-laid : {a b : Module} {x y : Network} → SameLines a b → x .size ≡ y .size → Laid y b → Laid x a

@@ -1,4 +1,4 @@
--- The buffers by arrays of lines and values are the buffers by the files: only the signals 1 to N are read from the arrays.
+-- The buffers by an array of the time 0 values are the buffers by the files: only the signals 1 to N are read from the array.
 use Prim.Native.Nat.{ℕ, zero, suc, _/_, _%_, _<_, _≤_}
 use mathlib.Core.Path.{_≡_, refl, sym, _∙_, ap}
 use mathlib.Core.Bool.{Bool, true, false}
@@ -9,7 +9,7 @@ use lib.ListN.{length, getD}
 use borrow.Author.Tests.{le-leb}
 use Rattle.logic.specs.Test.{_and_}
 use Rattle.logic.specs.Listed.{listed}
-use Rattle.logic.proofs.Listed.{listed-length, listed-at, is-listed}
+use Rattle.logic.proofs.Listed.{listed-length}
 use Rattle.model.specs.Refusal.{pass}
 use Rattle.model.specs.Network.{isSignal}
 use Rattle.model.specs.Netlist.{netSize, network, netCheck}
@@ -17,24 +17,18 @@ use Rattle.model.specs.Value.{valueOf, start}
 use Rattle.model.specs.Module.{noSender}
 use Rattle.model.specs.ModuleFile.{modField, modIndex, modProcessors, modSlots, moduleOf, modCheck}
 use Rattle.model.specs.Stimulus.{held as given}
-use Rattle.model.proofs.Accepted.{net-size, mod-slot}
+use Rattle.model.proofs.Accepted.{mod-slot}
 use Rattle.buffers_memory.specs.Memory.{memoryLength, within, written}
 use Rattle.buffers_memory.proofs.Written.{Place}
-use Rattle.buffers_memory.proofs.Regions.{within-true}
+use Rattle.buffers_memory.proofs.Within.{within-true}
 use Rattle.buffers_tables.specs.Panel.{panelLength}
-use Rattle.buffers_load.specs.Loaded.{timeZero, placeOf, panelByte, panelWith, panelOf, openingWith, openingBytes}
-use Rattle.buffers_load.specs.Checked.{ModuleChecked}
-use Rattle.buffers_load.specs.Values.{valueIn, sentValue, openingByte}
-use Rattle.buffers_load.proofs.Fields.{is-at}
-use Rattle.buffers_load.proofs.Panel.{panel-same}
-use Rattle.buffers_load.proofs.Memory.{place-there, byte-outside, byte-local, byte-sent-earlier, byte-sent-present, byte-other, nothing-sent, something-sent, sender-below, location-below}
-
-listed-same : (n : ℕ) (f g : ℕ → ℕ) → ((i : ℕ) → i < n → f i ≡ g i) → listed n f ≡ listed n g
-listed-same n f g h = is-listed (listed n f) n g (listed-length n f) (λ i b. listed-at n f i b ∙ h i b)
-
-pub schedules : (net modfile : List ℕ) → netCheck 4096 net ≡ pass → modCheck (network net) modfile ≡ pass → ModuleChecked modfile
-unfolding network
-schedules net modfile n m = record { network = network net; few = net-size 4096 net n .1; passes = m }
+use Rattle.buffers_load_files.specs.Loaded.{timeZero, placeOf, panelWith, panelOf, openingWith, openingBytes}
+use Rattle.buffers_load_files.specs.Checked.{ModuleChecked, valueIn}
+use Rattle.buffers_load_memory.specs.Bytes.{sentValue, openingByte}
+use Rattle.buffers_load_files.proofs.Fields.{schedules, is-at}
+use Rattle.buffers_load_files.proofs.Arrays.{listed-same, array-at, in-array}
+use Rattle.buffers_load_panel.proofs.Panel.{panel-same}
+use Rattle.buffers_load_memory.proofs.Memory.{place-there, byte-outside, byte-local, byte-sent-earlier, byte-sent-present, byte-other, nothing-sent, something-sent, sender-below, location-below}
 
 -- the time 0 value of a signal, and of none
 module _ (net stim : List ℕ) where
@@ -45,25 +39,6 @@ module _ (net stim : List ℕ) where
   pub zeroth-is : (s : ℕ) → 1 ≤ s → s ≤ netSize net → timeZero net stim s ≡ start (network net) (given stim 0) s
   unfolding timeZero isSignal _and_ network
   zeroth-is s l h = rw (le-leb 1 s l, le-leb s (netSize net) h)
-
--- an array of a given length
-array-at : (f : ℕ → ℕ) (l : List ℕ) → l ≡ listed 4097 f → (s : ℕ) → s < 4097 → getD l s 0 ≡ f s
-array-at f l e s h = ap (λ (x : List ℕ). getD x s 0) e ∙ listed-at 4097 f s h
-
-in-array : (net : List ℕ) → netCheck 4096 net ≡ pass → (s : ℕ) → s ≤ netSize net → s < 4097
-in-array net accepted s h = omega (arith, net-size 4096 net accepted)
-
-pub panel-placed : (net modfile : List ℕ) → netCheck 4096 net ≡ pass → (P C : ℕ) (places : List ℕ) (hand : ℕ → ℕ) → P ≡ modProcessors modfile
-    → C ≡ modSlots modfile → places ≡ listed 4097 (placeOf modfile)
-    → (panel : List ℕ) → panel ≡ listed panelLength (λ a. panelByte net P C (valueIn places) hand (a / 10) (a % 10))
-    → panel ≡ panelWith net modfile hand
-unfolding panelWith
-panel-placed net modfile accepted P C places hand p c e panel is =
-    is
-    ∙ rw (p, c)
-    (listed-same panelLength _ _
-    (λ a b. panel-same net (modProcessors modfile) (modSlots modfile) (valueIn places) hand (a % 10) (placeOf modfile) hand
-    (λ s l h. array-at (placeOf modfile) places e s (in-array net accepted s h)) (λ s l h. refl) (a / 10)))
 
 -- the array of the time 0 values
 module _ (net stim values : List ℕ) (e : values ≡ listed 4097 (timeZero net stim)) where

@@ -3,3 +3,4 @@ pub mod Written
 pub mod Regions
 pub mod Halves
 pub mod Near
+pub mod Within

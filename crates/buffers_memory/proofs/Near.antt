@@ -8,7 +8,7 @@ use Rattle.model.specs.Machine.{Memory, fetch}
 use Rattle.model.proofs.Machine.{Near}
 use Rattle.buffers_memory.specs.Memory.{blank, memoryOf, within, withMemory}
 use Rattle.buffers_memory.proofs.Written.{Agree, written-at, written-here, written-same, written-over, fetch-bytes}
-use Rattle.buffers_memory.proofs.Regions.{within-true, is-within}
+use Rattle.buffers_memory.proofs.Within.{within-true, is-within}
 
 pub agree-near : (m : Module) (w u : Memory) → Near m w u → Agree (within (m .processors) (m .slots)) w u
 unfolding fetch

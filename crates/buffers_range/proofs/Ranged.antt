@@ -14,7 +14,7 @@ use Rattle.logic.specs.Choice.{if_then_else_}
 use Rattle.model.specs.Module.{At}
 use Rattle.buffers_memory.specs.Memory.{memoryLength, blank, place, within, MemoryBytes}
 use Rattle.buffers_memory.proofs.Written.{Place, place-low, byte-place, byte-is}
-use Rattle.buffers_memory.proofs.Regions.{within-true}
+use Rattle.buffers_memory.proofs.Within.{within-true}
 use Rattle.buffers_tables.specs.Panel.{panelLength, signalsIn, processorsIn, slotsIn}
 use Rattle.buffers_tables.specs.Program.{programLength, lineIn}
 use Rattle.buffers_tables.specs.Tables.{networkIn, moduleIn, Tables}

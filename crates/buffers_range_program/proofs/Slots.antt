@@ -11,7 +11,7 @@ use borrow.Author.Tests.{ltb-true, ltb-false}
 use Rattle.logic.proofs.Tests.{and-true, and-left, and-right, all-at, all-true}
 use Rattle.logic.specs.Choice.{if_then_else_}
 use Rattle.buffers_memory.specs.Memory.{within}
-use Rattle.buffers_memory.proofs.Regions.{is-within, within-true, within-false, no-processor, no-location}
+use Rattle.buffers_memory.proofs.Within.{is-within, within-true, within-false, no-processor, no-location}
 use Rattle.buffers_tables.specs.Panel.{signalsIn, processorsIn, slotsIn}
 use Rattle.buffers_tables.specs.Tables.{networkIn, moduleIn}
 use Rattle.buffers_runs.specs.Zeros.{zeros}

@@ -3,7 +3,7 @@
 ghost use mathlib.Core.Path.{_≡_};
 ghost use Rattle.model.specs.Acceptance.{panelLimit, fileCheck};
 ghost use Rattle.model.specs.Session.{set as setting, watch as watching, read as reading, run as running};
-ghost use Rattle.buffers_load.specs.Loaded.{panelOf, programOf, openingBytes};
+ghost use Rattle.buffers_load_files.specs.Loaded.{panelOf, programOf, openingBytes};
 ghost use Rattle.session_answers.specs.Answers.{answerBits, checkBits};
 ghost use Rattle.session_opening.specs.Opened.{openingCheckLent, leftBy};
 ghost use Rattle.session_calls.specs.Reply.{buffersOf, reply};

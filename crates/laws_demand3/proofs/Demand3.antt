@@ -33,7 +33,7 @@ use Rattle.buffers_tables.specs.Tables.{networkIn}
 use Rattle.buffers_tables.specs.Holding.{Holding}
 use Rattle.buffers_range.specs.Ranges.{ranged}
 use Rattle.buffers_range.proofs.Ranged.{head-ranged}
-use Rattle.buffers_load.specs.Loaded.{panelOf, programOf, openingBytes}
+use Rattle.buffers_load_files.specs.Loaded.{panelOf, programOf, openingBytes}
 use Rattle.buffers_load.proofs.Loaded.{loaded-network, loaded-head, loaded-holding, loaded-tables}
 use Rattle.session_answers.specs.Answers.{answerBits, checkBits}
 use Rattle.session_opening.specs.Opened.{openingCheck, leftBy}

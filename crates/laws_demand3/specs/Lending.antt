@@ -9,7 +9,7 @@ use Rattle.model.specs.Files.{Files}
 use Rattle.model.specs.Session.{Call, set, watch, read, run, Lent, sameLengths, Answer, refused, done, value, ran}
 use Rattle.model.specs.Demands.{Working, Trace, end, next}
 use Rattle.buffers_memory.specs.Memory.{memoryOf}
-use Rattle.buffers_load.specs.Loaded.{panelOf, programOf, openingBytes}
+use Rattle.buffers_load_files.specs.Loaded.{panelOf, programOf, openingBytes}
 use Rattle.session_opening.specs.Opened.{openingCheckLent, leftBy}
 use Rattle.session_state.specs.Header.{headIn}
 use Rattle.buffers_lengths.specs.Lengths.{fixed}

@@ -19,7 +19,7 @@ use Rattle.model.proofs.Machine.{Small, cycle-small}
 use Rattle.model.proofs.Runs.{runs-exact}
 use Rattle.buffers_memory.specs.Memory.{blank, place, memoryOf, writtenAt, within, withMemory}
 use Rattle.buffers_memory.proofs.Written.{Place, written-at, written-here}
-use Rattle.buffers_memory.proofs.Regions.{within-true}
+use Rattle.buffers_memory.proofs.Within.{within-true}
 use Rattle.buffers_tables.specs.Panel.{processorsIn, slotsIn, codesIn}
 use Rattle.buffers_tables.specs.Tables.{networkIn, moduleIn}
 use Rattle.buffers_range_panel.proofs.Numbers.{Head}

@@ -22,11 +22,10 @@ use Rattle.model.specs.Listing.{printed}
 use Rattle.model.specs.Demands.{Demand2}
 use Rattle.model.proofs.Refusals.{pass-not-fail, first-both}
 use Rattle.model.proofs.Accepted.{net-accepted, mod-accepted, stim-accepted}
-use Rattle.buffers_memory.specs.Memory.{memoryOf}
-use Rattle.buffers_memory.specs.Memory.{withMemory}
+use Rattle.buffers_memory.specs.Memory.{memoryOf, withMemory}
 use Rattle.buffers_tables.specs.Panel.{signalsIn, processorsIn, slotsIn, handIn}
 use Rattle.machine_run.specs.Running.{cycleIn}
-use Rattle.buffers_load.specs.Loaded.{panelOf, programOf, openingBytes}
+use Rattle.buffers_load_files.specs.Loaded.{panelOf, programOf, openingBytes}
 use Rattle.buffers_load.proofs.Loaded.{loaded-tables}
 use Rattle.file_checks.specs.declared.FileAnswer.the-variants.{Refused}
 use Rattle.session_state.specs.declared.Session.{Session}

@@ -26,7 +26,7 @@ use Rattle.buffers_tables.specs.Panel.{processorsIn, slotsIn, maskIn, handIn}
 use Rattle.buffers_tables.specs.Tables.{networkIn, moduleIn}
 use Rattle.buffers_tables.specs.Holding.{Holding}
 use Rattle.machine_run.specs.Running.{cycleIn, watchedValue, runIn}
-use Rattle.buffers_load.specs.Loaded.{openingBytes}
+use Rattle.buffers_load_files.specs.Loaded.{openingBytes}
 use Rattle.laws_values.proofs.Same.{cycle-same}
 
 -- a memory written into the module's locations of the bytes is the bytes' memory there

@@ -27,15 +27,14 @@ use Rattle.model.proofs.Machine.{Near, near-refl, cycle-rows, cycle-near}
 use Rattle.model.proofs.Keeping.{machine-holds-VAL}
 use Rattle.model.proofs.Accepted.{net-accepted, mod-accepted}
 use Rattle.model.proofs.Demands.{accepted-formed, accepted-acyclic, accepted-scheduled}
-use Rattle.buffers_memory.specs.Memory.{memoryLength, memoryOf, within}
-use Rattle.buffers_memory.specs.Memory.{withMemory}
+use Rattle.buffers_memory.specs.Memory.{memoryLength, memoryOf, within, withMemory}
 use Rattle.buffers_memory.proofs.Written.{written-same}
 use Rattle.buffers_memory.proofs.Near.{agree-near, with-memory-near, with-memory-step}
 use Rattle.buffers_tables.specs.Panel.{panelLength, signalsIn, handIn}
 use Rattle.buffers_tables.specs.Tables.{networkIn}
 use Rattle.buffers_tables.specs.Holding.{Holding}
 use Rattle.machine_run.specs.Running.{cycleIn}
-use Rattle.buffers_load.specs.Loaded.{panelOf, programOf}
+use Rattle.buffers_load_files.specs.Loaded.{panelOf, programOf}
 use Rattle.buffers_load.proofs.Loaded.{loaded-tables, loaded-holding, loaded-network, loaded-head}
 use Rattle.laws_values.proofs.Same.{cycle-same, near-trans}
 use Rattle.laws_values.proofs.Valued.{processors-few, slots-few}

@@ -16,7 +16,7 @@ use Rattle.model.specs.Acceptance.{panelLimit, networkOf, moduleOfFiles, givenO
 use Rattle.model.proofs.Accepted.{net-accepted, mod-accepted, stim-accepted}
 use Rattle.buffers_memory.specs.Memory.{memoryLength, within}
 use Rattle.buffers_memory.proofs.Written.{written-length}
-use Rattle.buffers_load.specs.Loaded.{panelOf, programOf, openingBytes}
+use Rattle.buffers_load_files.specs.Loaded.{panelOf, programOf, openingBytes}
 use Rattle.buffers_load.proofs.Loaded.{loaded-tables, loaded-head}
 use Rattle.session_opening.proofs.Opened.{opened-ranged}
 use Rattle.session_state.specs.Header.{headIn, headOf}

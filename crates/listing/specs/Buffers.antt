@@ -14,10 +14,9 @@ use Rattle.model.specs.Stimulus.{stimTime, stimCount, held, endTime}
 use Rattle.model.specs.Acceptance.{networkOf, moduleOfFiles, givenOf}
 use Rattle.model.specs.Session.{Head}
 use Rattle.model.specs.Listing.{valueAt}
-use Rattle.buffers_memory.specs.Memory.{memoryLength}
-use Rattle.buffers_memory.specs.Memory.{withMemory}
+use Rattle.buffers_memory.specs.Memory.{memoryLength, withMemory}
 use Rattle.buffers_tables.specs.Panel.{handIn}
-use Rattle.buffers_load.specs.Loaded.{panelOf}
+use Rattle.buffers_load_files.specs.Loaded.{panelOf}
 use Rattle.session_state.specs.Header.{withHead}
 use Rattle.listing_cycle.specs.Changes.{shownLength, notShown}
 

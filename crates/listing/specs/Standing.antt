@@ -8,7 +8,7 @@ use lib.Seq.{sets}
 use Rattle.model.specs.Files.{Files}
 use Rattle.model.specs.Stimulus.{endTime}
 use Rattle.model.specs.Acceptance.{panelLimit, Accepted}
-use Rattle.buffers_load.specs.Loaded.{programOf}
+use Rattle.buffers_load_files.specs.Loaded.{programOf}
 use Rattle.session_state.specs.Header.{headOf}
 use Rattle.listing.specs.declared.Lister.{Lister}
 use Rattle.listing.specs.declared.Piece.{Piece}

@@ -16,7 +16,8 @@ use Rattle.model.specs.Module.{Module, Laid, localPresent, switchPresent, noSen
 use Rattle.model.specs.Machine.{Memory, fetch, result, sent, stored, slot}
 use Rattle.buffers_memory.specs.Memory.{memoryLength, blank, place, memoryOf, writtenAt, written, within, here, withMemory}
 use Rattle.buffers_memory.proofs.Written.{Place, is-written, written-length, written-at, written-here, written-else, written-blank, fetch-bytes, stored-there, stored-else, Agree, written-join, written-kept, written-same}
-use Rattle.buffers_memory.proofs.Regions.{here-is, here-test, here-written, within-true, is-within}
+use Rattle.buffers_memory.proofs.Regions.{here-is, here-test, here-written}
+use Rattle.buffers_memory.proofs.Within.{within-true, is-within}
 use Rattle.machine_slot.specs.Storing.{evaluated, storing, storedIf, passed, FirstAre}
 
 -- a byte after a store that is made or not

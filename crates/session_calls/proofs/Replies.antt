@@ -11,16 +11,17 @@ use Rattle.buffers_memory.proofs.Written.{written-self}
 use Rattle.buffers_tables.specs.Panel.{processorsIn, slotsIn, processorIn, slotIn}
 use Rattle.buffers_tables.specs.Tables.{networkIn, moduleIn}
 use Rattle.buffers_range.specs.Ranges.{ranged}
+use Rattle.session_answers.specs.declared.CallAnswer.{CallAnswer}
 use Rattle.session_answers.specs.Answers.{callAnswer, answerBits}
 use Rattle.session_state.specs.declared.Told.{Told}
 use Rattle.session_state.specs.Header.{headIn, headOf, withHead}
 use Rattle.buffers_lengths.specs.Lengths.{fixed}
 use Rattle.session_state.specs.Commands.{commanded, Tells}
 use Rattle.session_calls.specs.declared.Ready.{Ready}
-use Rattle.session_calls.specs.declared.Ready.the-variants.{Right, WrongLength, OutOfRange}
+use Rattle.session_calls.specs.declared.Ready.the-variants.{Right, Refused}
 use Rattle.session_calls.specs.Reply.{Buffers, buffersOf, lengthsOf, Reply, leaving, replied, reply}
 use Rattle.session_calls.specs.Ready.{readyOf, Writes}
-use Rattle.session_calls.proofs.Judged.{Sizes, same-lengths, found-wrong, found-out, right-sizes, right-range}
+use Rattle.session_calls.proofs.Judged.{Sizes, same-lengths, Refuses, by-40, by-44, found, right-sizes, right-range}
 
 -- a command on the head that the panel holds, answered and encoded
 pub writes : (panel program memory : List ℕ) (call : Call) (h : Head) → h ≡ headIn panel → withHead (headIn panel) panel ≡ panel → (told : Told)
@@ -132,14 +133,15 @@ Replies b c bits left = (bits ≡ answerBits (reply b c .answer)) × (reply b c 
 
 -- the code judged the buffers, and goes by what it found
 module _ (b : Buffers) (c : Call) (r : Ready) (judged : r ≡ readyOf b) where
-  refuses : (number bits : ℕ) → reply b c ≡ record { answer = refused number 0; buffers = b } → bits ≡ answerBits (refused number 0) → Replies b c bits b
-  refuses number bits e a = (a ∙ ap (λ (x : Reply). answerBits (x .answer)) (sym e), ap (λ (x : Reply). x .buffers) e)
+  pub replies-refused : (a : CallAnswer) → r ≡ Refused a → (bits : ℕ) → bits ≡ answerBits (callAnswer a) → Replies b c bits b
+  replies-refused a e bits is = (is ∙ ap (λ (x : Reply). answerBits (x .answer)) (sym refusal), ap (λ (x : Reply). x .buffers) refusal)
+    where
+      go : Refuses b a → reply b c ≡ record { answer = callAnswer a; buffers = b }
+      go (by-40 l q) = reply-40 b c l ∙ ap (λ (x : CallAnswer). record { answer = callAnswer x; buffers = b }) q
+      go (by-44 l out q) = reply-44 b c l out ∙ ap (λ (x : CallAnswer). record { answer = callAnswer x; buffers = b }) q
 
-  pub replies-40 : r ≡ WrongLength → (bits : ℕ) → bits ≡ answerBits (refused 40 0) → Replies b c bits b
-  replies-40 e bits a = refuses 40 bits (reply-40 b c (found-wrong b r judged e)) a
-
-  pub replies-44 : r ≡ OutOfRange → (bits : ℕ) → bits ≡ answerBits (refused 44 0) → Replies b c bits b
-  replies-44 e bits a = let both = found-out b r judged e in refuses 44 bits (reply-44 b c (both .0) (both .1)) a
+      refusal : reply b c ≡ record { answer = callAnswer a; buffers = b }
+      refusal = go (found b r a judged e)
 
   module _ (e : r ≡ Right) where
     sizes : Sizes b

@@ -6,18 +6,19 @@ use Rattle.logic.specs.Choice.{if_then_else_}
 use Rattle.model.specs.Machine.{Memory}
 use Rattle.model.specs.Session.{sameLengths, Outcome}
 use Rattle.buffers_range.specs.Ranges.{ranged}
+use Rattle.session_answers.specs.declared.CallAnswer.the-variants.{WrongLength, OutOfRange}
 use Rattle.session_answers.specs.Answers.{answerBits}
 use Rattle.session_state.specs.Header.{headIn, withHead}
 use Rattle.buffers_lengths.specs.Lengths.{fixed}
 use Rattle.session_calls.specs.declared.Ready.{Ready}
-use Rattle.session_calls.specs.declared.Ready.the-variants.{Right, WrongLength, OutOfRange}
+use Rattle.session_calls.specs.declared.Ready.the-variants.{Right, Refused}
 use Rattle.session_calls.specs.Reply.{Buffers, lengthsOf}
 
 unfoldable pub readyOf : Buffers → Ready
 readyOf b =
     if sameLengths (lengthsOf b) fixed then
-    (if ranged (b .panel) (b .program) (b .memory) then Right else OutOfRange) else
-    WrongLength
+    (if ranged (b .panel) (b .program) (b .memory) then Right else Refused OutOfRange) else
+    Refused WrongLength
 
 -- the bits that a call answers, and the panel that it leaves, are those of an outcome; the panel's own head, written back, changes no byte
 pub record Writes (o : Outcome Memory) (panel : List ℕ) (bits : ℕ) (left : List ℕ) : Type 0 where

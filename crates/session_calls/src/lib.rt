@@ -17,11 +17,10 @@ ghost use Rattle.session_calls.specs.Ready.{readyOf, Writes};
 use session_answers::CallAnswer;
 use session_state::Told;
 
-// Whether a call may go on with the buffers that it was lent.
+// Whether a call may go on with the buffers that it was lent, or what it answers at once.
 enum Ready {
     Right,
-    WrongLength,
-    OutOfRange,
+    Refused(CallAnswer),
 }
 
 // 40 where a length differs from the fixed one, then 44.
@@ -29,10 +28,10 @@ fn readiness(panel: &[u8], program: &[u8], memory: &[u8]) -> Ready
     ensures { λ r. ⌜ r ≡ readyOf (buffersOf (now (panel .entry)) (now (program .entry)) (now (memory .entry))) ⌝ }
 {
     if !buffers_lengths::lengths_right(panel, program, memory) {
-        return Ready::WrongLength;
+        return Ready::Refused(CallAnswer::WrongLength);
     }
     if !buffers_range::in_range(panel, program, memory) {
-        return Ready::OutOfRange;
+        return Ready::Refused(CallAnswer::OutOfRange);
     }
     Ready::Right
 }
@@ -103,8 +102,7 @@ pub fn set(panel: &mut [u8], program: &[u8], memory: &[u8], signal: u32, value: 
     ensures left { λ _. ⌜ reply (buffersOf (now (panel .entry)) (now (program .entry)) (now (memory .entry))) (setting signal value) .buffers ≡ buffersOf (now (panel .exit)) (now (program .entry)) (now (memory .entry)) ⌝ }
 {
     match readiness(panel, program, memory) {
-        Ready::WrongLength => CallAnswer::WrongLength.bits(),
-        Ready::OutOfRange => CallAnswer::OutOfRange.bits(),
+        Ready::Refused(answer) => answer.bits(),
         Ready::Right => set_in(panel, signal, value),
     }
 }
@@ -115,8 +113,7 @@ pub fn watch(panel: &mut [u8], program: &[u8], memory: &[u8], signal: u32, mask:
     ensures left { λ _. ⌜ reply (buffersOf (now (panel .entry)) (now (program .entry)) (now (memory .entry))) (watching signal mask) .buffers ≡ buffersOf (now (panel .exit)) (now (program .entry)) (now (memory .entry)) ⌝ }
 {
     match readiness(panel, program, memory) {
-        Ready::WrongLength => CallAnswer::WrongLength.bits(),
-        Ready::OutOfRange => CallAnswer::OutOfRange.bits(),
+        Ready::Refused(answer) => answer.bits(),
         Ready::Right => watch_in(panel, signal, mask),
     }
 }
@@ -127,8 +124,7 @@ pub fn read(panel: &[u8], program: &[u8], memory: &[u8], signal: u32) -> u64
     ensures left { λ _. ⌜ reply (buffersOf (now (panel .entry)) (now (program .entry)) (now (memory .entry))) (reading signal) .buffers ≡ buffersOf (now (panel .entry)) (now (program .entry)) (now (memory .entry)) ⌝ }
 {
     match readiness(panel, program, memory) {
-        Ready::WrongLength => CallAnswer::WrongLength.bits(),
-        Ready::OutOfRange => CallAnswer::OutOfRange.bits(),
+        Ready::Refused(answer) => answer.bits(),
         Ready::Right => read_in(panel, memory, signal),
     }
 }
@@ -139,8 +135,7 @@ pub fn run(panel: &mut [u8], program: &[u8], memory: &mut [u8], cycles: u32) -> 
     ensures left { λ _. ⌜ reply (buffersOf (now (panel .entry)) (now (program .entry)) (now (memory .entry))) (running cycles) .buffers ≡ buffersOf (now (panel .exit)) (now (program .entry)) (now (memory .exit)) ⌝ }
 {
     match readiness(panel, program, memory) {
-        Ready::WrongLength => CallAnswer::WrongLength.bits(),
-        Ready::OutOfRange => CallAnswer::OutOfRange.bits(),
+        Ready::Refused(answer) => answer.bits(),
         Ready::Right => run_in(panel, program, memory, cycles),
     }
 }

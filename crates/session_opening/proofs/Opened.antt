@@ -27,7 +27,7 @@ use Rattle.model.proofs.Accepted.{net-accepted, mod-accepted, stim-accepted, ne
 use Rattle.model.proofs.Machine.{Small, opening-small}
 use Rattle.buffers_memory.specs.Memory.{blank, place, within}
 use Rattle.buffers_memory.proofs.Written.{Place, written-at}
-use Rattle.buffers_memory.proofs.Regions.{within-true}
+use Rattle.buffers_memory.proofs.Within.{within-true}
 use Rattle.buffers_tables.specs.Panel.{panelLength, signalsIn, processorsIn, slotsIn, kindIn}
 use Rattle.buffers_tables.specs.Tables.{networkIn, moduleIn}
 use Rattle.buffers_range_panel.specs.Ranges.{codesRanged}
@@ -35,11 +35,11 @@ use Rattle.buffers_range.specs.Ranges.{ranged}
 use Rattle.buffers_range_panel.proofs.Numbers.{Head, Numbers, Panel, zeros-input, supplied-gate}
 use Rattle.buffers_range.proofs.Laid.{Line}
 use Rattle.buffers_range.proofs.Ranged.{Program, Values, is-ranged, head-ranged}
-use Rattle.buffers_load.specs.Loaded.{timeZero, placeOf, panelOf, programOf, openingBytes}
-use Rattle.buffers_load.specs.Values.{sentValue, openingByte}
-use Rattle.buffers_load.proofs.Panel.{panel-above, code-byte}
-use Rattle.buffers_load.proofs.Program.{byte-without}
-use Rattle.buffers_load.proofs.Memory.{byte-outside, byte-local, byte-sent-earlier, byte-sent-present, byte-other}
+use Rattle.buffers_load_files.specs.Loaded.{timeZero, placeOf, panelOf, programOf, openingBytes}
+use Rattle.buffers_load_memory.specs.Bytes.{sentValue, openingByte}
+use Rattle.buffers_load_panel.proofs.Panel.{panel-above, code-byte}
+use Rattle.buffers_load_program.proofs.Program.{byte-without}
+use Rattle.buffers_load_memory.proofs.Memory.{byte-outside, byte-local, byte-sent-earlier, byte-sent-present, byte-other}
 use Rattle.buffers_tables.specs.Holding.{SameLines}
 use Rattle.buffers_load.proofs.Loaded.{SameSignals, program-byte, panel-byte, loaded-module, signal-byte, loaded-network, loaded-head}
 use Rattle.session_opening.specs.Opened.{cleared}

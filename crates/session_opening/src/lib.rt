@@ -4,7 +4,7 @@ ghost use mathlib.Core.Path.{_≡_};
 ghost use lib.ListN.{length};
 ghost use Rattle.model.specs.Acceptance.{panelLimit, fileCheck};
 ghost use Rattle.model.specs.Session.{refused};
-ghost use Rattle.buffers_load.specs.Loaded.{panelOf, programOf, openingBytes};
+ghost use Rattle.buffers_load_files.specs.Loaded.{panelOf, programOf, openingBytes};
 ghost use Rattle.session_answers.specs.Answers.{answerBits, checkBits};
 ghost use Rattle.session_opening.specs.Opened.{openingCheckLent, cleared, leftBy};
 use file_checks::FileAnswer;

@@ -44,6 +44,10 @@ module _ (panel : List ℕ) (s : ℕ) (r : Bool) (e : r ≡ signalIn panel s) wh
   unfolding inputIn _and_
   input-goes-on h = rw (passes r (signalIn panel s) e h)
 
+-- if a command's outcome is known by an equation, what it tells is told by that
+pub tells : (o p : Outcome Memory) (told : Told) → o ≡ p → callAnswer (told .answer) ≡ p .answer → headOf (told .session) ≡ p .head → Tells o told
+tells o p told e a b = record { answer = a ∙ sym (ap (λ (x : Outcome Memory). x .answer) e); head = b ∙ sym (ap (λ (x : Outcome Memory). x .head) e) }
+
 module _ (panel program memory : List ℕ) (h : Head) (s : ℕ) where
   abbrev leaves : Call → Check → Outcome Memory
   leaves call check =
@@ -63,18 +67,6 @@ module _ (panel program memory : List ℕ) (h : Head) (s : ℕ) where
   unfolding callCheck isSignal networkIn signalIn
   read-check = refl
 
-  first-fails : (b c : Bool) (n r : ℕ) → b ≡ false → first (unless b 41 s) (unless c n r) ≡ fail 41 s
-  unfolding first unless
-  first-fails b c n r e = rw e
-
-  second-fails : (b c : Bool) (n r : ℕ) → b ≡ true → c ≡ false → first (unless b 41 s) (unless c n r) ≡ fail n r
-  unfolding first unless
-  second-fails b c n r e f = rw (e, f)
-
-  both-pass : (b c : Bool) (n r : ℕ) → b ≡ true → c ≡ true → first (unless b 41 s) (unless c n r) ≡ pass
-  unfolding first unless
-  both-pass b c n r e f = rw (e, f)
-
   refusal : (call : Call) (number returned : ℕ) → callCheck (networkIn panel program) (h .finished) call ≡ fail number returned
       → commanded panel program memory h call ≡ record { answer = refused number returned; head = h; state = memoryOf memory }
   unfolding meet
@@ -86,34 +78,67 @@ module _ (panel program memory : List ℕ) (h : Head) (s : ℕ) where
   unfolding meet
   performed call e = ap (leaves call) e
 
-  -- set
-  pub set-no-signal : (v : ℕ) → inputIn panel s ≡ false
-      → commanded panel program memory h (set s v) ≡ record { answer = refused 41 s; head = h; state = memoryOf memory }
-  set-no-signal v e = refusal (set s v) 41 s (set-check v ∙ first-fails (inputIn panel s) (leb v 3) 42 v e)
+  -- a refused call, and what a command tells of it: the refusal, and the head as it was
+  abbrev Refusal : Call → ℕ → ℕ → Type 0
+  Refusal call number returned = commanded panel program memory h call ≡ record { answer = refused number returned; head = h; state = memoryOf memory }
 
-  pub set-no-value : (v : ℕ) → inputIn panel s ≡ true → 3 < v
-      → commanded panel program memory h (set s v) ≡ record { answer = refused 42 v; head = h; state = memoryOf memory }
-  set-no-value v e l = refusal (set s v) 42 v (set-check v ∙ second-fails (inputIn panel s) (leb v 3) 42 v e (lt-leb v 3 l))
+  abbrev TellsRefusal : Call → ℕ → ℕ → Type 0
+  TellsRefusal call number returned =
+      (told : Told) → callAnswer (told .answer) ≡ refused number returned → headOf (told .session) ≡ h → Tells (commanded panel program memory h call) told
 
-  pub set-done : (v : ℕ) → inputIn panel s ≡ true → v ≤ 3
-      → commanded panel program memory h (set s v) ≡ record { answer = done; head = withValue h s v; state = memoryOf memory }
-  unfolding perform
-  set-done v e l = performed (set s v) (set-check v ∙ both-pass (inputIn panel s) (leb v 3) 42 v e (le-leb v 3 l))
+  -- a call that names a signal and gives a number: 41 where the signal is not known, then 42 where the number is above its limit
+  module _ (call : Call) (known : Bool) (given limit : ℕ)
+      (check : callCheck (networkIn panel program) (h .finished) call ≡ first (unless known 41 s) (unless (leb given limit) 42 given)) where
+    unknown : known ≡ false → Refusal call 41 s
+    unfolding first unless
+    unknown e = refusal call 41 s (check ∙ rw e)
 
-  -- watch
-  pub watch-no-signal : (m : ℕ) → signalIn panel s ≡ false
-      → commanded panel program memory h (watch s m) ≡ record { answer = refused 41 s; head = h; state = memoryOf memory }
-  watch-no-signal m e = refusal (watch s m) 41 s (watch-check m ∙ first-fails (signalIn panel s) (leb m 15) 42 m e)
+    above : known ≡ true → limit < given → Refusal call 42 given
+    unfolding first unless
+    above e l = refusal call 42 given (check ∙ rw (e, lt-leb given limit l))
 
-  pub watch-no-mask : (m : ℕ) → signalIn panel s ≡ true → 15 < m
-      → commanded panel program memory h (watch s m) ≡ record { answer = refused 42 m; head = h; state = memoryOf memory }
-  watch-no-mask m e l = refusal (watch s m) 42 m (watch-check m ∙ second-fails (signalIn panel s) (leb m 15) 42 m e (lt-leb m 15 l))
+    both-pass : known ≡ true → given ≤ limit → callCheck (networkIn panel program) (h .finished) call ≡ pass
+    unfolding first unless
+    both-pass e l = check ∙ rw (e, le-leb given limit l)
 
-  pub watch-done : (m : ℕ) → signalIn panel s ≡ true → m ≤ 15
-      → commanded panel program memory h (watch s m)
-      ≡ record { answer = done; head = record { finished = h .finished; hand = h .hand; watch = record { signal = s; mask = m } }; state = memoryOf memory }
-  unfolding perform
-  watch-done m e l = performed (watch s m) (watch-check m ∙ both-pass (signalIn panel s) (leb m 15) 42 m e (le-leb m 15 l))
+    -- by the code's test of the signal
+    module _ (r : Bool) (tested : r ≡ known) where
+      tells-41 : not r ≡ true → TellsRefusal call 41 s
+      tells-41 stops told = tells _ _ told (unknown (fails r known tested stops))
+
+      tells-42 : not r ≡ false → limit < given → TellsRefusal call 42 given
+      tells-42 goes-on l told = tells _ _ told (above (passes r known tested goes-on) l)
+
+  module _ (v : ℕ) where
+    pub set-no-signal : inputIn panel s ≡ false → Refusal (set s v) 41 s
+    set-no-signal = unknown (set s v) (inputIn panel s) v 3 (set-check v)
+
+    pub set-no-value : inputIn panel s ≡ true → 3 < v → Refusal (set s v) 42 v
+    set-no-value = above (set s v) (inputIn panel s) v 3 (set-check v)
+
+    pub set-done : inputIn panel s ≡ true → v ≤ 3
+        → commanded panel program memory h (set s v) ≡ record { answer = done; head = withValue h s v; state = memoryOf memory }
+    unfolding perform
+    set-done e l = performed (set s v) (both-pass (set s v) (inputIn panel s) v 3 (set-check v) e l)
+
+    pub set-41 : (r : Bool) → r ≡ inputIn panel s → not r ≡ true → TellsRefusal (set s v) 41 s
+    set-41 = tells-41 (set s v) (inputIn panel s) v 3 (set-check v)
+
+    pub set-42 : (r : Bool) → r ≡ inputIn panel s → not r ≡ false → 3 < v → TellsRefusal (set s v) 42 v
+    set-42 = tells-42 (set s v) (inputIn panel s) v 3 (set-check v)
+
+  module _ (m : ℕ) where
+    pub watch-done : signalIn panel s ≡ true → m ≤ 15
+        → commanded panel program memory h (watch s m)
+        ≡ record { answer = done; head = record { finished = h .finished; hand = h .hand; watch = record { signal = s; mask = m } }; state = memoryOf memory }
+    unfolding perform
+    watch-done e l = performed (watch s m) (both-pass (watch s m) (signalIn panel s) m 15 (watch-check m) e l)
+
+    pub watch-41 : (r : Bool) → r ≡ signalIn panel s → not r ≡ true → TellsRefusal (watch s m) 41 s
+    watch-41 = tells-41 (watch s m) (signalIn panel s) m 15 (watch-check m)
+
+    pub watch-42 : (r : Bool) → r ≡ signalIn panel s → not r ≡ false → 15 < m → TellsRefusal (watch s m) 42 m
+    watch-42 = tells-42 (watch s m) (signalIn panel s) m 15 (watch-check m)
 
   -- read
   pub read-no-signal : signalIn panel s ≡ false
@@ -126,7 +151,3 @@ module _ (panel program memory : List ℕ) (h : Head) (s : ℕ) where
       ≡ record { answer = value (memoryOf memory .earlierLocal (processorIn panel s) (slotIn panel s)); head = h; state = memoryOf memory }
   unfolding unless perform
   read-done e = performed (read s) (read-check ∙ ap (λ (b : Bool). unless b 41 s) e)
-
--- a command tells an outcome, and one that is equal
-pub tells : (o p : Outcome Memory) (told : Told) → o ≡ p → callAnswer (told .answer) ≡ p .answer → headOf (told .session) ≡ p .head → Tells o told
-tells o p told e a b = record { answer = a ∙ sym (ap (λ (x : Outcome Memory). x .answer) e); head = b ∙ sym (ap (λ (x : Outcome Memory). x .head) e) }

@@ -4,6 +4,7 @@ use mathlib.Core.Path.{refl}
 use lib.ListN.{length}
 use Rattle.logic.proofs.Filling.{Filled, fill-starts, fill-more, fill-ends}
 use native.Mathlib.Omega.{arith}
+use borrow.Author.Needs.{needs}
 use Rattle.buffers_load.proofs.fill.Statement.{statement}
 use Rattle.buffers_load.proofs.fill.Tie as tie
 
@@ -16,23 +17,11 @@ abbrev μ-loop : tie.MeasureT-loop
 loop-holds : tie.Need-loop-holds Inv-loop μ-loop
 loop-holds c = fill-starts _ _ _ refl
 
-slice-write-bytes : tie.Need-slice-write-bytes Inv-loop μ-loop
-slice-write-bytes c = omega (arith, c .before .loop .inv .size)
-
-add-a : tie.Need-add-a Inv-loop μ-loop
-add-a c = omega (arith, c .before .loop .inv .low)
-
-loop-less : tie.Need-loop-less Inv-loop μ-loop
-loop-less c = omega (arith, c .before .loop .inv .size)
-
 loop-again : tie.Need-loop-again Inv-loop μ-loop
-loop-again c = fill-more (c .before .loop .inv) _ (omega (arith, c .before .loop .inv .size)) refl
-
-same-length : tie.Need-same-length Inv-loop μ-loop
-same-length c = c .before .loop .inv .size
+loop-again c = fill-more (c .before .loop .inv) _ (omega arith) refl
 
 returns : tie.Need-returns Inv-loop μ-loop
-returns c = fill-ends (c .before .loop .inv) (omega (arith, c .before .loop .inv .size))
+returns c = fill-ends (c .before .loop .inv) (omega arith)
 
 pub fill-spec : {M : Type 1} → statement M
 fill-spec =
@@ -41,9 +30,9 @@ fill-spec =
     Inv-loop
     μ-loop
     loop-holds
-    slice-write-bytes
-    add-a
-    loop-less
+    (λ c. search needs)
+    (λ c. search needs)
+    (λ c. search needs)
     loop-again
-    same-length
+    (λ c. search needs)
     returns)

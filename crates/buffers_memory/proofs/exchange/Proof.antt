@@ -7,8 +7,10 @@ use Rattle.buffers_memory.proofs.exchange.Tie as tie
 
 returns : tie.Need-returns
 returns c =
-    let s = c .before .before .before .before .before .before .before .before .before in
-    exchanged (s .args .processor) (s .args .location) (s .pre .1) (s .pre .2) (s .args .memory .now) (s .pre .0) _ _ _ _ (omega arith) (omega arith) (omega arith) (omega arith) _ _ (c .before .before .before .before .before .before .swap .ensures) (c .before .before .swap2 .ensures)
+    let switch = c .before .before in
+    let local = switch .before .before .before .before in
+    let s = local .before .before .before in
+    exchanged (s .args .processor) (s .args .location) (s .pre .1) (s .pre .2) (s .args .memory .now) (s .pre .0) _ _ _ _ (omega arith) (omega arith) (omega arith) (omega arith) _ _ (local .swap .ensures) (switch .swap2 .ensures)
 
 pub exchange-spec : {M : Type 1} → statement M
 exchange-spec =

@@ -11,9 +11,10 @@ use Rattle.buffers_tables.proofs.instruction_in.Tie as tie
 
 returns : tie.Need-returns
 returns c =
-    let s = c .before .before .before .before .before .before .before .before .before in
+    let offset = c .before .before .before .before .before .before .before in
+    let s = offset .before .before in
     let l = s .args .program .now in
-    let at = c .before .before .before .before .before .before .before .line-offset .ensures .0 in
+    let at = offset .line-offset .ensures .0 in
     let line = lineIn (s .args .processor) (s .args .slot .0) in
     let pair = pair-there l in
     cc (

@@ -1,5 +1,7 @@
 -- The three checks: each answer carries its refusal, and the ones before it passed.
-use mathlib.Core.Path.{_∙_}
+use mathlib.Core.Path.{_≡_, _∙_}
+use Rattle.model.specs.Refusal.{pass}
+use Rattle.model.specs.Netlist.{netCheck}
 use Rattle.file_net.proofs.Joined.{refusal-of, stage-pass}
 use Rattle.file_mod_lines.proofs.Told.{not-accepted}
 use Rattle.file_mod_lines.proofs.Stages.{passed}
@@ -15,27 +17,35 @@ returns c =
     ∙ net-stops (s .args .net .now) (s .args .modfile .now) (s .args .stim .now) _ _ (c .before .before .check-net .ensures)
     (refusal-of _ (c .before .match .keys2))
 
+-- NET is accepted, where its answer says so
+module _ (c : tie.After-enum-told) where
+  abbrev entry : tie.Start
+  entry = c .before .before .before .before .before .before
+
+  net-right : netCheck 4096 (entry .args .net .now) ≡ pass
+  net-right = stage-pass _ _ _ _ (c .before .before .check-net .ensures) (c .enum-told .given .1)
+
 check-mod-requires : tie.Need-check-mod-requires
-check-mod-requires c κs = stage-pass _ _ _ _ (c .before .before .check-net .ensures) (c .enum-told .given .1)
+check-mod-requires c κs = net-right c
 
 returns-2 : tie.Need-returns-2
 returns-2 c =
-    let s = c .before .before .before .before .before .before .before .before .before in
-    let net-right = stage-pass _ _ _ _ (c .before .before .before .before .before .check-net .ensures) (c .before .before .before .enum-told .given .1) in
+    let net = c .before .before .before in
+    let s = entry net in
     c .mod-answer .ensures
-    ∙ mod-stops (s .args .net .now) (s .args .modfile .now) (s .args .stim .now) net-right _ _ _ (c .before .before .check-mod .ensures)
+    ∙ mod-stops (s .args .net .now) (s .args .modfile .now) (s .args .stim .now) (net-right net) _ _ _ (c .before .before .check-mod .ensures)
     (not-accepted _ (c .before .match2 .keys2))
 
 check-stim-requires : tie.Need-check-stim-requires
-check-stim-requires c κs = stage-pass _ _ _ _ (c .before .before .before .before .before .check-net .ensures) (c .before .before .before .enum-told .given .1)
+check-stim-requires c κs = net-right (c .before .before .before)
 
 returns-3 : tie.Need-returns-3
 returns-3 c =
-    let s = c .before .before .before .before .before .before .before .before .before .before .before in
-    let net-right = stage-pass _ _ _ _ (c .before .before .before .before .before .before .before .check-net .ensures) (c .before .before .before .before .before .enum-told .given .1) in
+    let net = c .before .before .before .before .before in
+    let s = entry net in
     let mod-right = passed _ _ _ _ _ _ (c .before .before .before .before .check-mod .ensures) (c .before .before .enum-told2 .given .1) in
     c .stim-answer .ensures
-    ∙ stim-last (s .args .net .now) (s .args .modfile .now) (s .args .stim .now) net-right _ mod-right (c .before .check-stim .ensures)
+    ∙ stim-last (s .args .net .now) (s .args .modfile .now) (s .args .stim .now) (net-right net) _ mod-right (c .before .check-stim .ensures)
 
 pub check-files-spec : {M : Type 1} → statement M
 check-files-spec =

@@ -3,24 +3,6 @@ use borrow.Author.Needs.{needs}
 use Rattle.file_checks.proofs.mod_answer.Statement.{statement}
 use Rattle.file_checks.proofs.mod_answer.Tie as tie
 
-returns-2 : tie.Need-returns-2
-returns-2 c = rw (c .before .answer .given .1)
-
-returns-3 : tie.Need-returns-3
-returns-3 c = rw (c .before .answer2 .given .1)
-
-returns-4 : tie.Need-returns-4
-returns-4 c = rw (c .before .answer3 .given .1)
-
-returns-5 : tie.Need-returns-5
-returns-5 c = rw (c .before .answer4 .given .1)
-
-returns-6 : tie.Need-returns-6
-returns-6 c = rw (c .before .answer5 .given .1)
-
-returns-7 : tie.Need-returns-7
-returns-7 c = rw (c .before .answer6 .given .1)
-
 pub mod-answer-spec : {M : Type 1} → statement M
 mod-answer-spec =
     tie.close
@@ -33,9 +15,9 @@ mod-answer-spec =
     (λ c. search needs)
     (λ c. search needs)
     (λ c. search needs)
-    returns-2
-    returns-3
-    returns-4
-    returns-5
-    returns-6
-    returns-7)
+    (λ c. cc)
+    (λ c. cc)
+    (λ c. cc)
+    (λ c. cc)
+    (λ c. cc)
+    (λ c. cc))

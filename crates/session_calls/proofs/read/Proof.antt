@@ -1,6 +1,6 @@
 -- `read`: the buffers are judged, and each case is that of the reply.
-use Rattle.session_calls.proofs.Judged.{right-sizes, right-signals, right-processor, right-memory}
-use Rattle.session_calls.proofs.Replies.{replies-40, replies-44, replies, read-state}
+use Rattle.session_calls.proofs.Judged.{right-panel, right-processor, right-memory}
+use Rattle.session_calls.proofs.Replies.{replies-refused, replies, read-state}
 use borrow.Author.Needs.{needs}
 use Rattle.session_calls.proofs.read.Statement.{statement}
 use Rattle.session_calls.proofs.read.Tie as tie
@@ -8,17 +8,14 @@ use Rattle.session_calls.proofs.read.Tie as tie
 read-in-requires : tie.Need-read-in-requires
 read-in-requires c κs =
     let judged = c .before .before .readiness .ensures in
-    let right = c .enum-told3 .given .1 in
-    ((right-sizes _ _ judged right .panel-size, right-signals _ _ judged right), (right-processor _ _ judged right, right-memory _ _ judged right))
+    let right = c .enum-told .given .1 in
+    (right-panel _ _ judged right, (right-processor _ _ judged right, right-memory _ _ judged right))
 
 returns : tie.Need-returns
-returns c = replies-40 _ _ _ (c .before .before .before .readiness .ensures) (c .before .enum-told .given .1) _ (c .bits .ensures)
+returns c = replies-refused _ _ _ (c .before .before .before .before .readiness .ensures) _ (c .before .before .answer .given .1) _ (c .bits .ensures)
 
 returns-2 : tie.Need-returns-2
-returns-2 c = replies-44 _ _ _ (c .before .before .before .readiness .ensures) (c .before .enum-told2 .given .1) _ (c .bits2 .ensures)
-
-returns-3 : tie.Need-returns-3
-returns-3 c = replies _ _ _ (c .before .before .before .readiness .ensures) (c .before .enum-told3 .given .1) _ _ (c .read-in .ensures _) (read-state _ _ _ _ _)
+returns-2 c = replies _ _ _ (c .before .before .before .readiness .ensures) (c .before .enum-told .given .1) _ _ (c .read-in .ensures _) (read-state _ _ _ _ _)
 
 pub read-spec : {M : Type 1} → statement M
 read-spec =
@@ -28,9 +25,6 @@ read-spec =
     (λ c. search needs)
     (λ c κs. search needs)
     (λ c. search needs)
-    (λ c κs. search needs)
-    (λ c. search needs)
     read-in-requires
     returns
-    returns-2
-    returns-3)
+    returns-2)

@@ -11,12 +11,15 @@ use Rattle.session_calls.proofs.run_in.Tie as tie
 
 returns : tie.Need-returns
 returns c =
-    let s = c .before .before .before .before .before .before .before .before .before .before .before .before .before .before in
+    let told = c .before .before in
+    let done = told .before .before .before .before in
+    let decoded = done .before .before .before in
+    let s = decoded .before .before .before .before .before in
     let panel = s .args .panel .now in
     let program = s .args .program .now in
     let memory = s .args .memory .now in
-    let d = c .before .before .before .before .before .before .before .before .before .decode .ensures in
-    (writes panel program memory _ _ (d .0) (d .1) _ (c .before .before .before .before .before .before .run .ensures .0) _ _ (c .before .before .tell .ensures .0) (c .before .before .tell .ensures .1), c .before .before .before .before .before .before .run .ensures .1 ∙ ap (λ (h : Head). withMemory (processorsIn panel) (slotsIn panel) (commanded panel program memory h (run (s .args .cycles)) .state) memory) (d .0))
+    let d = decoded .decode .ensures in
+    (writes panel program memory _ _ (d .0) (d .1) _ (done .run .ensures .0) _ _ (told .tell .ensures .0) (told .tell .ensures .1), done .run .ensures .1 ∙ ap (λ (h : Head). withMemory (processorsIn panel) (slotsIn panel) (commanded panel program memory h (run (s .args .cycles)) .state) memory) (d .0))
 
 pub run-in-spec : {M : Type 1} → statement M
 run-in-spec =

@@ -2,7 +2,7 @@
 use mathlib.Core.Path.{sym, _∙_}
 use borrow.Author.Tests.{not-true, not-false}
 use Rattle.model.proofs.Accepted.{net-accepted, mod-accepted, stim-accepted}
-use Rattle.buffers_load.specs.Loaded.{panelOf, programOf, openingBytes}
+use Rattle.buffers_load_files.specs.Loaded.{panelOf, programOf, openingBytes}
 use Rattle.buffers_lengths.proofs.Sizes.{same-sizes}
 use Rattle.session_opening.proofs.Outcome.{wrong-length, right-length, files-accepted, files-refused, refused-bits, refused-left, accepted-bits, accepted-left}
 use borrow.Author.Needs.{needs}
@@ -11,9 +11,10 @@ use Rattle.session_opening.proofs.open.Tie as tie
 
 returns : tie.Need-returns
 returns c =
-    let test = c .before .before .before .before .before .before .before .before .before .before in
+    let refused = c .before .before .before .before .before .before in
+    let test = refused .before .before .before .before in
     let e = wrong-length _ _ (sym (test .before .lengths-right .ensures) ∙ not-true _ (test .if1 .taken)) in
-    let r = c .before .before .before .before .before .before .refuse .ensures in
+    let r = refused .refuse .ensures in
     (r .0 ∙ refused-bits e, (r .1 .0 ∙ refused-left e _ _, (r .1 .1 .0 ∙ refused-left e _ _, r .1 .1 .1 ∙ refused-left e _ _)))
 
 load-requires : tie.Need-load-requires
@@ -26,24 +27,27 @@ load-requires c κs =
 
 returns-2 : tie.Need-returns-2
 returns-2 c =
-    let told = c .before .before .before .before .before .before .before .before .before .before in
+    let loaded = c .before .before .before .before .before .before in
+    let told = loaded .before .before .before .before in
     let test = told .before .before .before in
-    let s = test .before .before .before .before .before .before .before .before .before .before .before in
+    let lent = test .before .before .before .before .before in
+    let s = lent .before .before .before .before .before .before in
     let net = s .args .net .now in
     let modfile = s .args .modfile .now in
     let stim = s .args .stim .now in
     let e = right-length _ _ (sym (test .before .lengths-right .ensures) ∙ not-false _ (test .if1 .left))
     ∙ files-accepted _ _ (told .before .before .check-files .ensures) (told .enum-told .given .1) in
-    let r = c .before .before .before .before .before .before .load .ensures in
+    let r = loaded .load .ensures in
     (accepted-bits e, (accepted-left e _ (panelOf net modfile stim) _ (r .0), (accepted-left e _ (programOf modfile) _ (r .1 .0), accepted-left e _ (openingBytes net modfile stim) _ (r .1 .1))))
 
 returns-3 : tie.Need-returns-3
 returns-3 c =
-    let told = c .before .before .before .before .before .before .before .before .before .before .before in
+    let refused = c .before .before .before .before .before .before in
+    let told = refused .before .before .before .before .before in
     let test = told .before .before .before in
     let e = right-length _ _ (sym (test .before .lengths-right .ensures) ∙ not-false _ (test .if1 .left))
     ∙ files-refused _ _ (told .before .before .check-files .ensures) (told .number .given .1) in
-    let r = c .before .before .before .before .before .before .refuse2 .ensures in
+    let r = refused .refuse2 .ensures in
     (r .0 ∙ refused-bits e, (r .1 .0 ∙ refused-left e _ _, (r .1 .1 .0 ∙ refused-left e _ _, r .1 .1 .1 ∙ refused-left e _ _)))
 
 pub open-spec : {M : Type 1} → statement M

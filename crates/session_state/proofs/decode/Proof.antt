@@ -7,10 +7,12 @@ use Rattle.session_state.proofs.decode.Tie as tie
 
 returns : tie.Need-returns
 returns c =
-    let s = c .before .before .before .before .before .before .before .before .before .before .before in
-    let finished = c .before .before .before .before .word-of .ensures in
+    let numbers = c .before .before .before .before in
+    let hand = numbers .before .before .before .before in
+    let s = hand .before .before .before in
+    let finished = numbers .word-of .ensures in
     let watched = c .before .word-of2 .ensures in
-    (decoded (s .args .panel .now) _ (s .pre) (c .before .before .before .before .before .before .before .before .take-hand .ensures) _ _ _ (finished .0) (watched .0) refl, own-head (s .args .panel .now) (s .pre) (finished .1) (watched .1))
+    (decoded (s .args .panel .now) _ (s .pre) (hand .take-hand .ensures) _ _ _ (finished .0) (watched .0) refl, own-head (s .args .panel .now) (s .pre) (finished .1) (watched .1))
 
 pub decode-spec : {M : Type 1} → statement M
 decode-spec =

@@ -18,10 +18,10 @@ loop-holds : tie.Need-loop-holds Inv-loop μ-loop
 loop-holds c = fill-starts _ _ _ (search needs)
 
 loop-again : tie.Need-loop-again Inv-loop μ-loop
-loop-again c = fill-more (c .before .before .loop .inv) _ (omega (arith, c .before .before .loop .inv .size)) refl
+loop-again c = fill-more (c .before .before .loop .inv) _ (omega arith) refl
 
 returns : tie.Need-returns Inv-loop μ-loop
-returns c = fill-ends (c .before .loop .inv) (omega (arith, c .before .loop .inv .size))
+returns c = fill-ends (c .before .loop .inv) (omega arith)
 
 pub take-hand-spec : {M : Type 1} → statement M
 take-hand-spec =

@@ -8,8 +8,10 @@ use Rattle.session_state.proofs.Session.encode.Tie as tie
 
 returns : tie.Need-returns
 returns c =
-    let s = c .before .before .before .before .before .before .before .before .before .before .before .before in
-    encoded (headOf (s .args .t1)) (s .args .t1 .hand) _ _ _ (s .pre) (λ k. refl) (c .before .before .before .before .before .before .before .before .before .store-numbers .ensures) (c .before .before .store-hand .ensures)
+    let hand = c .before .before in
+    let numbers = hand .before .before .before .before .before .before .before in
+    let s = numbers .before .before .before in
+    encoded (headOf (s .args .t1)) (s .args .t1 .hand) _ _ _ (s .pre) (λ k. refl) (numbers .store-numbers .ensures) (hand .store-hand .ensures)
 
 pub encode-spec : {M : Type 1} → statement M
 encode-spec = tie.close (tie.spec (λ c κs. search needs) (λ c κs. search needs) (λ c. search needs) returns)

@@ -26,16 +26,20 @@ returns c =
     let l : 65535 < h .finished + k = omega (arith, c .if1 .taken) in
     (tells _ _ _ (run-refused panel program memory h k l) refl refl, memory-kept panel program memory h k (s .pre .1 .1 .0 .size) l)
 
+-- the entry, from where the machine has run
+abbrev entry : tie.After-run → tie.Start
+entry c = c .before .before .before .before .before .before
+
 add-t18 : tie.Need-add-t18
 add-t18 c =
-    let s = c .before .before .before .before .before .before .before .before .before .before in
+    let s = entry (c .before .before .before .before) in
     let done = c .before .before .before .before .run .ensures .0 in
     let most = run-most (s .args .panel .now) (s .args .program .now) (memoryOf (s .args .memory .now)) (s .args .cycles) in
     omega (arith, done, most, c .before .before .before .before .before .before .if1 .left)
 
 returns-2 : tie.Need-returns-2
 returns-2 c =
-    let s = c .before .before .before .before .before .before .before .before .before .before in
+    let s = entry (c .before .before .before .before) in
     let h = headOf (s .args .self) in
     let panel = s .args .panel .now in
     let program = s .args .program .now in

@@ -1,28 +1,18 @@
 -- `watch`: 41, 42 and the watch, each as the model has it.
 use mathlib.Core.Path.{refl}
 use Rattle.session_state.specs.Header.{headOf}
-use Rattle.logic.proofs.Judged.{fails, passes}
-use Rattle.session_state.proofs.Commands.{signal-high, watch-no-signal, watch-no-mask, watch-done, tells}
+use Rattle.logic.proofs.Judged.{passes}
+use Rattle.session_state.proofs.Commands.{signal-high, watch-41, watch-42, watch-done, tells}
 use native.Mathlib.Omega.{arith}
 use borrow.Author.Needs.{needs}
 use Rattle.session_state.proofs.Session.watch.Statement.{statement}
 use Rattle.session_state.proofs.Session.watch.Tie as tie
 
 returns : tie.Need-returns
-returns c =
-    let s = c .before .before .before in
-    λ program memory.
-    tells _ _ _
-    (watch-no-signal (s .args .panel .now) program memory (headOf (s .args .self)) (s .args .signal) (s .args .mask) (fails _ _ (c .before .is-signal .ensures) (c .if1 .taken)))
-    refl refl
+returns c = let s = c .before .before .before in λ program memory. watch-41 (s .args .panel .now) program memory (headOf (s .args .self)) (s .args .signal) (s .args .mask) _ (c .before .is-signal .ensures) (c .if1 .taken) _ refl refl
 
 returns-2 : tie.Need-returns-2
-returns-2 c =
-    let s = c .before .before .before .before in
-    λ program memory.
-    tells _ _ _
-    (watch-no-mask (s .args .panel .now) program memory (headOf (s .args .self)) (s .args .signal) (s .args .mask) (passes _ _ (c .before .before .is-signal .ensures) (c .before .if1 .left)) (c .if2 .taken))
-    refl refl
+returns-2 c = let s = c .before .before .before .before in λ program memory. watch-42 (s .args .panel .now) program memory (headOf (s .args .self)) (s .args .signal) (s .args .mask) _ (c .before .before .is-signal .ensures) (c .before .if1 .left) (c .if2 .taken) _ refl refl
 
 cast-watched : tie.Need-cast-watched
 cast-watched c =

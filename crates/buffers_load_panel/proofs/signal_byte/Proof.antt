@@ -1,0 +1,80 @@
+-- `signal_byte`: kind and codes are right fields of NET, in the ranges that 11 leaves.
+use mathlib.Core.Path.{_≡_, _∙_, refl}
+use Prim.Native.Nat.{_*_, _≤_}
+use native.Mathlib.Omega.{arith}
+use Rattle.model.proofs.Accepted.{net-size}
+use Rattle.buffers_load_panel.proofs.Panel.{net-field, kind-small, code-small, kind-byte, code-byte, line-processor, line-slot}
+use borrow.Author.Needs.{needs}
+use Rattle.buffers_load_panel.proofs.signal_byte.Statement.{statement}
+use Rattle.buffers_load_panel.proofs.signal_byte.Tie as tie
+
+mul-number-at : tie.Need-mul-number-at
+mul-number-at c = let s = c .before .before in omega (arith, net-size 4096 _ (s .pre .0), s .pre .1 .1)
+
+number-at-requires : tie.Need-number-at-requires
+number-at-requires c κs = let s = c .before .before in net-field _ (s .pre .0) (s .pre .1 .0) (s .pre .1 .1) 0 (73 * s .args .signal) (omega arith) (omega arith)
+
+cast-result : tie.Need-cast-result
+cast-result c = let s = c .before .before .before in omega (arith, c .number-at .ensures, kind-byte (s .args .net .now) (s .args .signal), kind-small _ (s .pre .0) (s .pre .1 .0) (s .pre .1 .1))
+
+returns : tie.Need-returns
+returns c = let s = c .before .before .before in rw (c .before .if1 .taken) (c .number-at .ensures ∙ kind-byte (s .args .net .now) (s .args .signal))
+
+mul-number-at-2 : tie.Need-mul-number-at-2
+mul-number-at-2 c = let s = c .before .before .before in omega (arith, net-size 4096 _ (s .pre .0), s .pre .1 .1)
+
+add-number-at-2 : tie.Need-add-number-at-2
+add-number-at-2 c = let s = c .before .before .before in omega (arith, net-size 4096 _ (s .pre .0), s .pre .1 .1)
+
+number-at-requires-2 : tie.Need-number-at-requires-2
+number-at-requires-2 c κs = let s = c .before .before .before in net-field _ (s .pre .0) (s .pre .1 .0) (s .pre .1 .1) _ _ (omega arith) refl
+
+cast-result-2 : tie.Need-cast-result-2
+cast-result-2 c =
+    let s = c .before .before .before .before in
+    let low : 1 ≤ s .args .column = omega (arith, c .before .before .if1 .left) in
+    omega (arith, c .number-at2 .ensures, code-small _ (s .pre .0) (s .pre .1 .0) (s .pre .1 .1) (s .args .column) low (c .before .if2 .taken))
+
+returns-2 : tie.Need-returns-2
+returns-2 c =
+    let s = c .before .before .before .before in
+    let low : 1 ≤ s .args .column = omega (arith, c .before .before .if1 .left) in
+    c .number-at2 .ensures ∙ code-byte (s .args .net .now) (s .args .signal) _ _ _ (s .args .column) low (c .before .if2 .taken)
+
+cast-result-3 : tie.Need-cast-result-3
+cast-result-3 c = let s = c .before .before .before .before .before in omega (arith, line-processor (s .args .line) (s .args .slots) (s .pre .1 .2) (s .pre .1 .4))
+
+returns-4 : tie.Need-returns-4
+returns-4 c = rw (c .if4 .taken)
+
+cast-result-4 : tie.Need-cast-result-4
+cast-result-4 c = let s = c .before .before .before .before .before in omega (arith, line-slot (s .args .line) (s .args .slots) (s .pre .1 .2), s .pre .1 .3)
+
+returns-5 : tie.Need-returns-5
+returns-5 c =
+    let s = c .before .before .before .before .before in
+    let e : s .args .column ≡ 9 = omega (arith, s .pre .1 .5) in
+    rw e
+
+pub signal-byte-spec : {M : Type 1} → statement M
+signal-byte-spec =
+    tie.close
+    (tie.spec
+    mul-number-at
+    number-at-requires
+    cast-result
+    returns
+    mul-number-at-2
+    (λ c. search needs)
+    (λ c. search needs)
+    add-number-at-2
+    number-at-requires-2
+    cast-result-2
+    returns-2
+    (λ c. search needs)
+    (λ c. search needs)
+    cast-result-3
+    returns-4
+    (λ c. search needs)
+    cast-result-4
+    returns-5)

@@ -1,0 +1,149 @@
+// The panel as a session opens, from accepted NET and MOD and the signals' time 0 values: where each signal is placed, then every byte.
+
+ghost use mathlib.Core.Path.{_≡_};
+ghost use Prim.Native.Nat.{ℕ, _*_, _/_, _%_, _<_, _≤_};
+ghost use lib.ListN.{length, getD};
+ghost use Rattle.logic.specs.Listed.{listed};
+ghost use Rattle.model.specs.Refusal.{pass};
+ghost use Rattle.model.specs.Netlist.{netSize, netCheck};
+ghost use Rattle.buffers_tables.specs.Panel.{panelLength};
+ghost use Rattle.buffers_load_files.specs.Loaded.{placeOf, headBytes, signalBytes, panelByte, panelWith};
+ghost use Rattle.buffers_load_files.specs.Checked.{ModuleChecked, valueIn};
+ghost use Rattle.buffers_load_panel.specs.Lines.{LineNumbers};
+
+// Which line of MOD has each signal, counted from 0 after line 1. Index 0 is for the empty slots.
+fn load_places(modfile: &[u8], places: &mut [u16])
+    requires { ⌜ ModuleChecked (now modfile) ⌝ }
+    requires { ⌜ (length (now places) ≡ 4097) × ((s : ℕ) → s ≤ 4096 → getD (now places) s 0 ≡ 0) ⌝ }
+    ensures { λ _. ⌜ now (places .exit) ≡ listed 4097 (placeOf (now (modfile .entry))) ⌝ }
+{
+    let lines = buffers_load_files::processors_of(modfile) * buffers_load_files::slots_of(modfile);
+    let mut k: usize = 0;
+    while k < lines {
+        let signal = fields::number_at(modfile, 85 * (k + 1) + 12) as usize;
+        places[signal] = k as u16;
+        k += 1;
+    }
+}
+
+// A line's number, for use as an index.
+fn line_index(line: u16) -> usize
+    ensures { λ r. ⌜ r ≡ line ⌝ }
+{
+    line as usize
+}
+
+// One of the session's ten bytes: N, P, C, no cycle finished, watch signal 1 with mask 0.
+fn head_byte(signals: usize, processors: usize, slots: usize, column: usize) -> u8
+    requires { ⌜ (signals ≤ 4096) × (processors ≤ 16) × (slots ≤ 256) × (column < 10) ⌝ }
+    ensures { λ r. ⌜ r ≡ getD (headBytes signals processors slots) column 0 ⌝ }
+{
+    if column == 0 {
+        return (signals % 256) as u8;
+    }
+    if column == 1 {
+        return (signals / 256) as u8;
+    }
+    if column == 2 {
+        return processors as u8;
+    }
+    if column == 3 {
+        return (slots % 256) as u8;
+    }
+    if column == 4 {
+        return (slots / 256) as u8;
+    }
+    if column == 7 {
+        return 1;
+    }
+    0
+}
+
+// One of the ten bytes of a signal: its codes as in NET, its value in hand, the processor and the slot of its line.
+fn signal_byte(net: &[u8], signal: usize, value: u8, line: usize, slots: usize, column: usize) -> u8
+    requires { ⌜ netCheck 4096 (now net) ≡ pass ⌝ }
+    requires { ⌜ (1 ≤ signal) × (signal ≤ netSize (now net)) × (1 ≤ slots) × (slots ≤ 256) × (line < 16 * slots) × (column < 10) ⌝ }
+    ensures { λ r. ⌜ r ≡ getD (signalBytes (now (net .entry)) signal value (line / slots) (line % slots)) column 0 ⌝ }
+{
+    if column == 0 {
+        return fields::number_at(net, 73 * signal) as u8;
+    }
+    if column < 7 {
+        return fields::number_at(net, 73 * signal + 6 * (column + 1)) as u8;
+    }
+    if column == 7 {
+        return value;
+    }
+    if column == 8 {
+        return (line / slots) as u8;
+    }
+    (line % slots) as u8
+}
+
+// Byte a of the panel. It holds 0 above signal N.
+fn panel_byte(
+    net: &[u8],
+    places: &[u16],
+    values: &[u8],
+    signals: usize,
+    processors: usize,
+    slots: usize,
+    a: usize,
+) -> u8
+    requires { ⌜ netCheck 4096 (now net) ≡ pass ⌝ }
+    requires { ⌜ (signals ≡ netSize (now net)) × (processors ≤ 16) × (1 ≤ slots) × (slots ≤ 256) × (a < panelLength) ⌝ }
+    requires { ⌜ (length (now values) ≡ 4097) × LineNumbers slots (now places) ⌝ }
+    ensures { λ r. ⌜ r ≡ panelByte (now (net .entry)) processors slots (valueIn (now (places .entry))) (valueIn (now (values .entry))) (a / 10) (a % 10) ⌝ }
+{
+    let signal = a / 10;
+    if signal == 0 {
+        return head_byte(signals, processors, slots, a % 10);
+    }
+    if signals < signal {
+        return 0;
+    }
+    signal_byte(
+        net,
+        signal,
+        values[signal],
+        line_index(places[signal]),
+        slots,
+        a % 10,
+    )
+}
+
+// The panel, by the signals' lines and values.
+fn fill_panel(
+    net: &[u8],
+    places: &[u16],
+    values: &[u8],
+    processors: usize,
+    slots: usize,
+    panel: &mut [u8],
+)
+    requires { ⌜ netCheck 4096 (now net) ≡ pass ⌝ }
+    requires { ⌜ (processors ≤ 16) × (1 ≤ slots) × (slots ≤ 256) × (length (now panel) ≡ panelLength) ⌝ }
+    requires { ⌜ (length (now values) ≡ 4097) × LineNumbers slots (now places) ⌝ }
+    ensures { λ _. ⌜ now (panel .exit) ≡ listed panelLength (λ a. panelByte (now (net .entry)) processors slots (valueIn (now (places .entry))) (valueIn (now (values .entry))) (a / 10) (a % 10)) ⌝ }
+{
+    let signals = buffers_load_files::signals_of(net);
+    let mut a: usize = 0;
+    while a < panel.len() {
+        panel[a] = panel_byte(net, places, values, signals, processors, slots, a);
+        a += 1;
+    }
+}
+
+// The panel as the session opens, with given values in hand.
+pub fn load_panel(net: &[u8], modfile: &[u8], values: &[u8], panel: &mut [u8])
+    requires { ⌜ netCheck 4096 (now net) ≡ pass ⌝ }
+    requires { ⌜ ModuleChecked (now modfile) ⌝ }
+    requires { ⌜ (length (now values) ≡ 4097) × (length (now panel) ≡ panelLength) ⌝ }
+    ensures { λ _. ⌜ now (panel .exit) ≡ panelWith (now (net .entry)) (now (modfile .entry)) (valueIn (now (values .entry))) ⌝ }
+{
+    let mut places = [0u16; 4097];
+    load_places(modfile, &mut places);
+    let processors = buffers_load_files::processors_of(modfile);
+    let slots = buffers_load_files::slots_of(modfile);
+    fill_panel(net, &places, values, processors, slots, panel);
+}

@@ -1,0 +1,56 @@
+// The program buffer from an accepted MOD, filled byte by byte: a function answers what a byte is.
+
+ghost use mathlib.Core.Path.{_≡_};
+ghost use Prim.Native.Nat.{_/_, _%_, _<_};
+ghost use lib.ListN.{length, getD};
+ghost use Rattle.model.specs.ModuleFile.{modProcessors, modSlots, moduleOf};
+ghost use Rattle.buffers_tables.specs.Program.{programLength};
+ghost use Rattle.buffers_load_files.specs.Loaded.{lineBytes, programByte, programOf};
+ghost use Rattle.buffers_load_files.specs.Checked.{ModuleChecked};
+
+// One of the 13 bytes of a processor and a slot: the signal takes two, and every other number is below 256.
+fn line_byte(modfile: &[u8], slots: usize, processor: usize, slot: usize, column: usize) -> u8
+    requires { ⌜ ModuleChecked (now modfile) ⌝ }
+    requires { ⌜ (slots ≡ modSlots (now modfile)) × (processor < modProcessors (now modfile)) × (slot < slots) × (column < 13) ⌝ }
+    ensures { λ r. ⌜ r ≡ getD (lineBytes (moduleOf (now (modfile .entry))) processor slot) column 0 ⌝ }
+{
+    if column == 0 {
+        return (buffers_load_files::field_at(modfile, slots, processor, slot, 2) % 256) as u8;
+    }
+    if column == 1 {
+        return (buffers_load_files::field_at(modfile, slots, processor, slot, 2) / 256) as u8;
+    }
+    buffers_load_files::field_at(modfile, slots, processor, slot, column + 1) as u8
+}
+
+// Byte a of the program. It holds 0 where the module has no such processor or slot.
+fn program_byte(modfile: &[u8], processors: usize, slots: usize, a: usize) -> u8
+    requires { ⌜ ModuleChecked (now modfile) ⌝ }
+    requires { ⌜ (processors ≡ modProcessors (now modfile)) × (slots ≡ modSlots (now modfile)) × (a < programLength) ⌝ }
+    ensures { λ r. ⌜ r ≡ programByte (now (modfile .entry)) (a / 13 % 16) (a / 13 / 16) (a % 13) ⌝ }
+{
+    let processor = a / 13 % 16;
+    let slot = a / 13 / 16;
+    if processors <= processor {
+        return 0;
+    }
+    if slots <= slot {
+        return 0;
+    }
+    line_byte(modfile, slots, processor, slot, a % 13)
+}
+
+// The program: MOD's lines, slot by slot.
+pub fn load_program(modfile: &[u8], program: &mut [u8])
+    requires { ⌜ ModuleChecked (now modfile) ⌝ }
+    requires { ⌜ length (now program) ≡ programLength ⌝ }
+    ensures { λ _. ⌜ now (program .exit) ≡ programOf (now (modfile .entry)) ⌝ }
+{
+    let processors = buffers_load_files::processors_of(modfile);
+    let slots = buffers_load_files::slots_of(modfile);
+    let mut a: usize = 0;
+    while a < program.len() {
+        program[a] = program_byte(modfile, processors, slots, a);
+        a += 1;
+    }
+}
