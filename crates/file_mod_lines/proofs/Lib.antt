@@ -3,4 +3,3 @@ pub mod Judged
 pub mod Lines
 pub mod Told
 pub mod Stages
-pub mod Prefix

@@ -16,10 +16,10 @@ use Rattle.fields.proofs.Lines.{field-wrong}
 use Rattle.model.specs.Refusal.{Check, pass, fail, first, unless, firstBelow}
 use Rattle.model.specs.Netlist.{netSignal, sourcesRight}
 use Rattle.model.proofs.Refusals.{pass-not-fail, first-both, below-pass, below-first}
+use Rattle.file_net_line.specs.Layout.{signalLayout}
 use Rattle.file_net.specs.Answer.{netRefusal, answerOf, Judged}
 use Rattle.file_net.specs.declared.NetAnswer.{NetAnswer}
 use Rattle.file_net.specs.declared.NetAnswer.the-variants.{Accepted}
-use Rattle.file_net.proofs.Layouts.{layout}
 
 -- a refusal is judged by its number and line, and is no acceptance
 pub refused : (check : Check) (size : ℕ) (r : NetAnswer) (number returned : ℕ) → netRefusal r ≡ fail number returned → check ≡ fail number returned → Judged check size r
@@ -58,11 +58,11 @@ module _ (net : List ℕ) (line : ℕ) where
   at-10 e = rw e
 
   module _ (form : isLineAt net (73 * line) 12 ≡ true) where
-    at-11 : layout net line ≡ false → netSignal net line ≡ fail 11 (line + 1)
+    at-11 : signalLayout net line ≡ false → netSignal net line ≡ fail 11 (line + 1)
     unfolding netSignal first unless
     at-11 e = rw (form, e)
 
-    module _ (laid : layout net line ≡ true) where
+    module _ (laid : signalLayout net line ≡ true) where
       at-12 : sourcesRight net line ≡ false → netSignal net line ≡ fail 12 (line + 1)
       unfolding netSignal first unless
       at-12 e = rw (form, laid, e)
@@ -96,12 +96,12 @@ module _ (net : List ℕ) (size line : ℕ) (low : 1 ≤ line) (before : firstBe
         refused _ size r 10 (line + 1) (ap netRefusal e) (first-fault 10 h (at-10 net line f))
 
     module _ (form : isLineAt net (73 * line) 12 ≡ true) where
-      pub judged-11 : fault ≡ 11 → line ≤ size → layout net line ≡ false → Judged (firstBelow size (signals net)) size r
+      pub judged-11 : fault ≡ 11 → line ≤ size → signalLayout net line ≡ false → Judged (firstBelow size (signals net)) size r
       judged-11 q h f =
           let e = answers 11 q in
           refused _ size r 11 (line + 1) (ap netRefusal e) (first-fault 11 h (at-11 net line form f))
 
-      pub judged-12 : fault ≡ 12 → line ≤ size → layout net line ≡ true → sourcesRight net line ≡ false → Judged (firstBelow size (signals net)) size r
+      pub judged-12 : fault ≡ 12 → line ≤ size → signalLayout net line ≡ true → sourcesRight net line ≡ false → Judged (firstBelow size (signals net)) size r
       judged-12 q h laid f =
           let e = answers 12 q in
           refused _ size r 12 (line + 1) (ap netRefusal e) (first-fault 12 h (at-12 net line form laid f))
@@ -113,7 +113,7 @@ module _ (net : List ℕ) (size line : ℕ) (low : 1 ≤ line) (before : firstBe
         record { refusal = ap netRefusal e ∙ sym (subst (λ (m : ℕ). firstBelow m (signals net) ≡ pass) s before); accepted = λ n p. cc }
 
   -- and this one
-  pub one-more : isLineAt net (73 * line) 12 ≡ true → layout net line ≡ true → sourcesRight net line ≡ true
+  pub one-more : isLineAt net (73 * line) 12 ≡ true → signalLayout net line ≡ true → sourcesRight net line ≡ true
       → firstBelow (line + 1 - 1) (signals net) ≡ pass
   unfolding firstBelow
   one-more form laid sources =

@@ -7,24 +7,19 @@ use mathlib.Core.Logic.{⊎-elim}
 use native.Mathlib.Omega.{arith}
 use denote.Enum.Declared.{tagOf}
 use types.Run.{OneOf}
-use borrow.Author.Tests.{leb-true}
+use borrow.Author.Tests.{eq-eqb, ne-eqb, leb-true}
 use Rattle.logic.proofs.Tests.{and-left, and-right}
-use Rattle.graph_chains.specs.Graph.{FirstLoop}
-use Rattle.model.specs.Refusal.{Check, pass, fail, firstBelow}
+use Rattle.model.specs.Refusal.{Check, pass, fail, unless, firstBelow}
 use Rattle.fields.specs.Line.{isLineAt}
-use Rattle.model.specs.Network.{Network, Signal}
-use Rattle.model.specs.Network as Network
-use Rattle.model.specs.Netlist.{netSize, network, netHeader, netSignal, netSurplus, netChains, netCheck}
+use Rattle.model.specs.Netlist.{netSize, netHeader, netSignal, netSurplus, netChains, netCheck}
 use Rattle.model.proofs.Refusals.{first-second, first-stays, below-pass, first-left, first-right, unless-true}
-use Rattle.model.proofs.Chains.{chains-acyclic, chains-smallest}
 use Rattle.model.proofs.Accepted.{signal-right}
+use Rattle.file_net_chains.specs.Chain.{Lines, chainCheck}
 use Rattle.file_net.specs.Answer.{netRefusal, Judged}
-use Rattle.file_net.specs.Graph.{Lines}
 use Rattle.file_net.specs.declared.NetAnswer.{NetAnswer}
 use Rattle.file_net.specs.declared.NetAnswer.the-variants.{Accepted, Misformed, Layout, Sources, Chain}
 use Rattle.file_net.proofs.NetAnswer.{the-type}
 use Rattle.file_net.proofs.Faults.{refused, passed}
-use Rattle.file_net.proofs.Closed.{edges, path-chain, chain-path}
 
 -- an answer that `let .. else` leaves is a refusal
 pub record Refusal (r : NetAnswer) : Type 0 where
@@ -101,10 +96,6 @@ module _ (limit : ℕ) (net : List ℕ) where
           line zero b = unless-true _ _ _ (first-left _ _ header)
           line (suc k) b = signal-right net (suc k) (signal (suc k) (omega arith) b) .line
 
-chain-end : {n : Network} {a b : ℕ} → Network.Chain n a b → Signal n b
-chain-end (Network.one f) = f .to
-chain-end (Network.more c f) = f .to
-
 -- the same with N as the code has it
 module _ (limit : ℕ) (net : List ℕ) (header : netHeader limit net ≡ pass) (size : ℕ) (is : size ≡ netSize net) where
   -- what a stage judged for N as the code has it
@@ -132,22 +123,12 @@ module _ (limit : ℕ) (net : List ℕ) (header : netHeader limit net ≡ pass) 
     pub lines-right : size ≤ 4096 → Lines net size
     lines-right small = subst (λ (s : ℕ). Lines net s) (sym is) (right-lines limit net header all-of-them (rw is at small))
 
--- 13 from the graph's loops
-module _ (net : List ℕ) (size : ℕ) (right : Lines net size) (r : ℕ) (first-loop : FirstLoop (edges net size right) size r) where
-  pub chain-found : (r ≡ 0 → ⊥) → Judged (netChains net) size (Chain r)
-  chain-found d =
-      refused _ _ (Chain r) 13 r refl
-      (chains-smallest net r
-      (record {
-        closed = path-chain net size right (first-loop .loops (omega arith));
-        no-smaller = λ s l c. first-loop .smallest s (chain-end c .low) l (chain-path net size right c);
-      }))
+-- 13 from the search for a closed chain
+module _ (net : List ℕ) (size signal : ℕ) (is : chainCheck signal ≡ netChains net) where
+  pub chain-refused : (signal ≡ 0 → ⊥) → Judged (netChains net) size (Chain signal)
+  unfolding chainCheck unless
+  chain-refused d = refused _ _ (Chain signal) 13 signal refl (sym is ∙ rw (ne-eqb signal 0 d))
 
-  pub chain-none : r ≡ 0 → Judged (netChains net) size (Accepted size)
-  unfolding network
-  chain-none e =
-      passed _ _ _
-      (chains-acyclic net (λ s c. first-loop .none e s (chain-end c .low) (top s (chain-end c .high)) (chain-path net size right c))) refl
-    where
-      top : (s : ℕ) → s ≤ network net .size → s ≤ size
-      top s h = rw (right .is) h
+  pub chain-none : signal ≡ 0 → Judged (netChains net) size (Accepted size)
+  unfolding chainCheck unless
+  chain-none e = passed _ _ _ (sym is ∙ rw (eq-eqb signal 0 e)) refl

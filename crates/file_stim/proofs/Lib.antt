@@ -4,5 +4,4 @@ pub mod Judging
 pub mod Lines
 pub mod Fields
 pub mod Steps
-pub mod Prefix
 pub mod Passed

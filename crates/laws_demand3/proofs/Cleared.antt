@@ -22,7 +22,7 @@ use Rattle.session_answers.specs.Answers.{answerBits}
 use Rattle.session_answers.specs.Apart.{apart}
 use Rattle.session_answers.proofs.Bits.{refusal, apart-bits}
 use Rattle.session_opening.specs.Opened.{cleared, leftBy}
-use Rattle.session_opening.proofs.Opened.{cleared-out-of-range}
+use Rattle.laws_opening.proofs.Opened.{cleared-out-of-range}
 use Rattle.session_calls.specs.Reply.{Buffers, lengthsOf, Reply, reply}
 use Rattle.session_calls.proofs.Replies.{reply-44}
 use Rattle.laws_demand3.specs.Lending.{openedBy, Opens, Meets, Answered, own, other, kindOf, Post, Throughout, EveryCall}

@@ -37,7 +37,7 @@ use Rattle.buffers_load_files.specs.Loaded.{panelOf, programOf, openingBytes}
 use Rattle.buffers_load.proofs.Loaded.{loaded-network, loaded-head, loaded-holding, loaded-tables}
 use Rattle.session_answers.specs.Answers.{answerBits, checkBits}
 use Rattle.session_opening.specs.Opened.{openingCheck, leftBy}
-use Rattle.session_opening.proofs.Opened.{opened-ranged}
+use Rattle.laws_opening.proofs.Opened.{opened-ranged}
 use Rattle.laws_values.proofs.Valued.{processors-few, slots-few, opening-holds}
 use Rattle.session_state.specs.Header.{headIn, withHead}
 use Rattle.buffers_lengths.specs.Lengths.{fixed}

@@ -22,9 +22,9 @@ use Rattle.model.specs.Demands.{Demand2}
 use Rattle.model.proofs.Refusals.{pass-not-fail, first-stays, first-second}
 use Rattle.model.proofs.Accepted.{net-accepted, mod-accepted, stim-accepted, net-size, net-length, mod-processors, mod-slots, mod-length, stim-right}
 use Rattle.model.proofs.Demands.{joined-same, printed-demand-2}
-use Rattle.file_net.proofs.Prefix.{net-prefix}
-use Rattle.file_mod_lines.proofs.Prefix.{mod-prefix}
-use Rattle.file_stim.proofs.Prefix.{stim-prefix}
+use Rattle.laws_prefix.proofs.Net.{net-prefix}
+use Rattle.laws_prefix.proofs.Module.{mod-prefix}
+use Rattle.laws_prefix.proofs.Stim.{stim-prefix}
 use Rattle.file_checks.specs.declared.FileAnswer.{FileAnswer}
 use Rattle.file_checks.specs.Answer.{fileRefusal}
 use Rattle.listing.specs.declared.Lister.{Lister}

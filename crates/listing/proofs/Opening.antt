@@ -18,7 +18,7 @@ use Rattle.buffers_memory.specs.Memory.{memoryLength, within}
 use Rattle.buffers_memory.proofs.Written.{written-length}
 use Rattle.buffers_load_files.specs.Loaded.{panelOf, programOf, openingBytes}
 use Rattle.buffers_load.proofs.Loaded.{loaded-tables, loaded-head}
-use Rattle.session_opening.proofs.Opened.{opened-ranged}
+use Rattle.laws_opening.proofs.Opened.{opened-ranged}
 use Rattle.session_state.specs.Header.{headIn, headOf}
 use Rattle.session_state.proofs.Heads.{same-head}
 use Rattle.listing.specs.declared.Lister.{Lister}

@@ -1,3 +1,1 @@
 pub mod Writing
-pub mod Spelling
-pub mod RoundTrip

@@ -56,15 +56,19 @@ signal-layout-requires : tie.Need-signal-layout-requires Inv-loop μ-loop Inv-li
 signal-layout-requires c κs = (omega arith, form c)
 
 sources-right-requires : tie.Need-sources-right-requires Inv-loop μ-loop Inv-lines μ-lines
-sources-right-requires c κs = (omega arith, form (c .before .before), c .before .before .before .before .before .before .before .before .before .pre .0)
+sources-right-requires c κs =
+    let start = c .before .before .before .before .before .before .before .before .before in
+    (omega arith, form (c .before .before), start .pre .0)
 
 lines-again : tie.Need-lines-again Inv-loop μ-loop Inv-lines μ-lines
 lines-again c =
-    let i = c .before .before .before .before .before .before .before .before .before .lines .inv in (
+    let fields = c .before .before .before .before .before .before .before in
+    let lines = fields .before .before in
+    let i = lines .lines .inv in (
       omega arith,
       omega arith,
-      c .before .before .before .before .before .before .before .loop .inv .3 ∙ i .2,
-      one-more _ (c .before .before .before .before .before .before .before .before .before .before .before .args .size) _ (i .0) (i .3) (form (c .before .before .before .before))
+      fields .loop .inv .3 ∙ i .2,
+      one-more _ (lines .before .before .args .size) _ (i .0) (i .3) (form (c .before .before .before .before))
           (sym (c .before .before .before .signal-layout .ensures) ∙ not-false _ (c .before .before .if2 .left))
           (sym (c .before .sources-right .ensures) ∙ not-false _ (c .if3 .left)),
     )

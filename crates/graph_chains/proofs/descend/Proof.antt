@@ -26,13 +26,15 @@ returns c =
 
 visit-requires : tie.Need-visit-requires
 visit-requires c κs =
-    let s = c .before .before .before .before .before .before .before .before .before in
+    let found = c .before .before .before in
+    let s = found .before .before .before .before .before .before in
     let top = s .pre .1 .1 .0 .high (s .args .depth - 1) (omega (arith, s .pre .1 .1 .1)) in
     (s .pre .0, (s .pre .1 .0, (top, omega arith)))
 
 returns-2 : tie.Need-returns-2
 returns-2 c =
-    let p = c .before .before .before .before .before .before .before .before .before .before .before .before .pre in
+    let found = c .before .before .before .before .before .before in
+    let p = found .before .before .before .before .before .before .pre in
     step-back (p .0) (p .1 .0) (p .1 .1 .0) _ (p .1 .1 .1 .0) refl _ _ (c .before .before .visit .ensures)
 
 pub descend-spec : {M : Type 1} → statement M

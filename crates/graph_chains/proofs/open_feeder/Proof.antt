@@ -1,22 +1,30 @@
 -- `open_feeder` takes each of four feeders.
-use Prim.Native.Nat.{_+_, _*_}
+use Prim.Native.Nat.{ℕ, _+_, _*_, _<_}
 use native.Mathlib.Omega.{arith}
+use lib.ListN.{length, getD}
 use Rattle.graph_chains.proofs.Descending.{open-four}
 use borrow.Author.Needs.{needs}
 use Rattle.graph_chains.proofs.open_feeder.Statement.{statement}
 use Rattle.graph_chains.proofs.open_feeder.Tie as tie
 
+-- an entry of the graph names a node or none
+node : (c : tie.Start) (k : ℕ) → getD (c .args .edges .now) k 0 < length (c .args .ranks .now)
+node c k = omega (arith, c .pre .0 .small, c .pre .0 .within k)
+
 open-or-requires : tie.Need-open-or-requires
-open-or-requires c κs = let s = c .before .before .before in omega (arith, s .pre .0 .small, s .pre .0 .within (4 * s .args .y))
+open-or-requires c κs = let start = c .before .before .before in node start (4 * start .args .y)
 
 open-or-requires-2 : tie.Need-open-or-requires-2
-open-or-requires-2 c κs = let s = c .before .before .before .before .before in omega (arith, s .pre .0 .small, s .pre .0 .within (4 * s .args .y + 1))
+open-or-requires-2 c κs = let start = c .before .before .before .before .before in node start (4 * start .args .y + 1)
 
 open-or-requires-3 : tie.Need-open-or-requires-3
-open-or-requires-3 c κs = let s = c .before .before .before .before .before .before .before in omega (arith, s .pre .0 .small, s .pre .0 .within (4 * s .args .y + 2))
+open-or-requires-3 c κs = let start = c .before .before .before .before .before .before .before in node start (4 * start .args .y + 2)
 
 open-or-requires-4 : tie.Need-open-or-requires-4
-open-or-requires-4 c κs = let s = c .before .before .before .before .before .before .before .before .before in omega (arith, s .pre .0 .small, s .pre .0 .within (4 * s .args .y + 3))
+open-or-requires-4 c κs =
+    let second = c .before .before .before .before in
+    let start = second .before .before .before .before .before in
+    node start (4 * start .args .y + 3)
 
 returns : tie.Need-returns
 returns c =

@@ -1,22 +1,42 @@
 -- `push_feeders` is four pushes.
-use Prim.Native.Nat.{_+_, _*_}
+use Prim.Native.Nat.{ℕ, _+_, _*_, _<_}
 use native.Mathlib.Omega.{arith}
+use lib.ListN.{getD}
+use Rattle.graph_chains.specs.Graph.{places}
 use Rattle.graph_chains.proofs.Pushing.{push-four}
 use borrow.Author.Needs.{needs}
 use Rattle.graph_chains.proofs.push_feeders.Statement.{statement}
 use Rattle.graph_chains.proofs.push_feeders.Tie as tie
 
+-- an entry of the graph names a node or none
+node : (c : tie.Start) (k : ℕ) → getD (c .args .edges .now) k 0 < places
+node c k = omega (arith, c .pre .0 .small, c .pre .0 .within k)
+
 push-requires : tie.Need-push-requires
-push-requires c κs = let s = c .before .before .before .before .before .before in (s .pre .1 .0, omega (arith, s .pre .0 .small, s .pre .0 .within (4 * s .args .y)))
+push-requires c κs =
+    let start = c .before .before .before .before .before .before in
+    (start .pre .1 .0, node start (4 * start .args .y))
 
 push-requires-2 : tie.Need-push-requires-2
-push-requires-2 c κs = let s = c .before .before .before .before .before .before .before .before .before .before .before .before .before .before in (c .before .before .before .before .before .before .before .push .ensures .1, omega (arith, s .pre .0 .small, s .pre .0 .within (4 * s .args .y + 1)))
+push-requires-2 c κs =
+    let first = c .before .before .before .before .before .before .before in
+    let start = first .before .before .before .before .before .before .before in
+    (first .push .ensures .1, node start (4 * start .args .y + 1))
 
 push-requires-3 : tie.Need-push-requires-3
-push-requires-3 c κs = let s = c .before .before .before .before .before .before .before .before .before .before .before .before .before .before .before .before .before .before .before .before .before .before in (c .before .before .before .before .before .before .before .push2 .ensures .1, omega (arith, s .pre .0 .small, s .pre .0 .within (4 * s .args .y + 2)))
+push-requires-3 c κs =
+    let second = c .before .before .before .before .before .before .before in
+    let first = second .before .before .before .before .before .before .before .before in
+    let start = first .before .before .before .before .before .before .before in
+    (second .push2 .ensures .1, node start (4 * start .args .y + 2))
 
 push-requires-4 : tie.Need-push-requires-4
-push-requires-4 c κs = let s = c .before .before .before .before .before .before .before .before .before .before .before .before .before .before .before .before .before .before .before .before .before .before .before .before .before .before .before .before .before .before in (c .before .before .before .before .before .before .before .push3 .ensures .1, omega (arith, s .pre .0 .small, s .pre .0 .within (4 * s .args .y + 3)))
+push-requires-4 c κs =
+    let third = c .before .before .before .before .before .before .before in
+    let second = third .before .before .before .before .before .before .before .before in
+    let first = second .before .before .before .before .before .before .before .before in
+    let start = first .before .before .before .before .before .before .before in
+    (third .push3 .ensures .1, node start (4 * start .args .y + 3))
 
 returns : tie.Need-returns
 returns c =

@@ -15,7 +15,10 @@ raise-requires-3 : tie.Need-raise-requires-3
 raise-requires-3 c κs = let s = c .before .before .before .before .before .before .before .before in entry-ready (s .pre .0) (s .pre .1 .0) (4 * s .args .y + 2)
 
 raise-requires-4 : tie.Need-raise-requires-4
-raise-requires-4 c κs = let s = c .before .before .before .before .before .before .before .before .before .before in entry-ready (s .pre .0) (s .pre .1 .0) (4 * s .args .y + 3)
+raise-requires-4 c κs =
+    let second = c .before .before .before .before in
+    let s = second .before .before .before .before .before .before in
+    entry-ready (s .pre .0) (s .pre .1 .0) (4 * s .args .y + 3)
 
 returns : tie.Need-returns
 returns c =

@@ -25,20 +25,36 @@ rank-deep-requires c κs =
 loop-holds : tie.Need-loop-holds Inv-loop μ-loop
 loop-holds c = (c .before .before .rank-deep .ensures, λ e. absurd (omega (arith, e)))
 
+-- from the loop back to the start
+abbrev start-of : tie.At-loop Inv-loop μ-loop → tie.Start Inv-loop μ-loop
+start-of loop =
+    let cleared = loop .before .before .before .before .before .before .before in
+    cleared .before .before .before .before .before
+
 visit-all-requires : tie.Need-visit-all-requires Inv-loop μ-loop
-visit-all-requires c κs = (c .before .before .before .before .before .before .before .before .before .before .before .before .before .before .pre .0, c .before .before .loop .inv .0)
+visit-all-requires c κs =
+    let loop = c .before .before in
+    let start = start-of loop in
+    (start .pre .0, loop .loop .inv .0)
 
 loop-less : tie.Need-loop-less Inv-loop μ-loop
 loop-less c =
-    let l = c .before .before .before .before .before .loop in
-    let v = c .before .before .visit-all in
-    omega (arith, pass-fewer _ _ _ (c .before .before .before .before .before .before .before .before .before .before .before .before .before .before .before .before .before .pre .0) _ (l .inv .0) _ (v .ensures), c .before .before .before .before .loop-test .taken)
+    let test = c .before .before .before .before in
+    let loop = test .before in
+    let start = start-of loop in
+    omega (arith, pass-fewer _ _ _ (start .pre .0) _ (loop .loop .inv .0) _ (c .before .before .visit-all .ensures), test .loop-test .taken)
 
 loop-again : tie.Need-loop-again Inv-loop μ-loop
-loop-again c = pass-ends _ _ _ (c .before .before .before .before .before .before .before .before .before .before .before .before .before .before .before .before .before .pre .0) _ (c .before .before .before .before .before .loop .inv .0) _ (c .before .before .visit-all .ensures)
+loop-again c =
+    let loop = c .before .before .before .before .before in
+    let start = start-of loop in
+    pass-ends _ _ _ (start .pre .0) _ (loop .loop .inv .0) _ (c .before .before .visit-all .ensures)
 
 same-length : tie.Need-same-length Inv-loop μ-loop
-same-length c = c .before .loop .inv .0 .long ∙ sym (c .before .before .before .before .before .before .before .before .before .before .before .before .before .pre .1)
+same-length c =
+    let loop = c .before in
+    let start = start-of loop in
+    loop .loop .inv .0 .long ∙ sym (start .pre .1)
 
 returns : tie.Need-returns Inv-loop μ-loop
 returns c = let i = c .before .loop .inv in all-ranked (i .0) (i .1 (c .loop-test .left))

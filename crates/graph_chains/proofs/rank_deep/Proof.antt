@@ -27,17 +27,21 @@ loop-holds c = (
 )
 
 same-length : tie.Need-same-length Inv-loop μ-loop
-same-length c = c .before .before .loop .inv .1 .long ∙ sym (c .before .before .before .before .before .before .before .before .before .pre .1 .long)
+same-length c =
+    let loop = c .before .before in
+    let start = loop .before .before .before .before .before .before .before in
+    loop .loop .inv .1 .long ∙ sym (start .pre .1 .long)
 
 returns : tie.Need-returns Inv-loop μ-loop
 returns c = c .before .before .loop .inv .1
 
 descend-requires : tie.Need-descend-requires Inv-loop μ-loop
 descend-requires c κs =
-    let i = c .before .before .before .before .loop .inv in
-    let s = c .before .before .before .before .before .before .before .before .before .before .before in
+    let loop = c .before .before .before .before in
+    let i = loop .loop .inv in
+    let start = loop .before .before .before .before .before .before .before in
     let some = c .before .before .if1 .left in
-    (s .pre .0, (i .1, (i .2, (omega arith, omega (arith, s .pre .0 .each .small)))))
+    (start .pre .0, (i .1, (i .2, (omega arith, omega (arith, start .pre .0 .each .small)))))
 
 loop-again : tie.Need-loop-again Inv-loop μ-loop
 loop-again c =

@@ -25,18 +25,24 @@ cast-y c = let l = c .before .loop in omega (arith, l .inv .within (l .depth - 1
 
 push-feeders-requires-2 : tie.Need-push-feeders-requires-2 Inv-loop μ-loop
 push-feeders-requires-2 c κs =
-    let l = c .before .before .before .loop in
-    (c .before .before .before .before .before .before .before .before .before .before .pre .0, (pop-room (state (l .marks) (l .stack) (l .depth)) _ (omega arith) (l .inv .room), l .inv .within _))
+    let turn = c .before .before .before in
+    let l = turn .loop in
+    let start = turn .before .before .before .before .before .before .before in
+    (start .pre .0, (pop-room (state (l .marks) (l .stack) (l .depth)) _ (omega arith) (l .inv .room), l .inv .within _))
 
 loop-less : tie.Need-loop-less Inv-loop μ-loop
 loop-less c =
-    let l = c .before .before .before .before .before .before .loop in
-    turn-less _ _ (c .before .before .before .before .before .before .before .before .before .before .before .before .before .pre .0) (c .before .before .before .before .before .before .before .before .before .before .before .before .before .args .s) (state (l .marks) (l .stack) (l .depth)) _ _ (omega arith) (l .inv .room) (c .before .before .push-feeders2 .ensures .0)
+    let turn = c .before .before .before .before .before .before in
+    let l = turn .loop in
+    let start = turn .before .before .before .before .before .before .before in
+    turn-less _ _ (start .pre .0) (start .args .s) (state (l .marks) (l .stack) (l .depth)) _ _ (omega arith) (l .inv .room) (c .before .before .push-feeders2 .ensures .0)
 
 loop-again : tie.Need-loop-again Inv-loop μ-loop
 loop-again c =
-    let l = c .before .before .before .before .before .before .loop in
-    next-turn _ _ (c .before .before .before .before .before .before .before .before .before .before .before .before .before .pre .0) _ (state (l .marks) (l .stack) (l .depth)) _ _ (omega arith) (l .inv) (c .before .before .push-feeders2 .ensures .0)
+    let turn = c .before .before .before .before .before .before in
+    let l = turn .loop in
+    let start = turn .before .before .before .before .before .before .before in
+    next-turn _ _ (start .pre .0) _ (state (l .marks) (l .stack) (l .depth)) _ _ (omega arith) (l .inv) (c .before .before .push-feeders2 .ensures .0)
 
 returns : tie.Need-returns Inv-loop μ-loop
 returns c = let i = c .before .loop .inv in search-tells _ _ _ _ i (omega arith)

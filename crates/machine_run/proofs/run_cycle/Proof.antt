@@ -9,10 +9,11 @@ use Rattle.machine_run.proofs.run_cycle.Tie as tie
 returns : tie.Need-returns
 unfolding moduleIn
 returns c =
-    let s = c .before .before .before .before .before .before .before .before .before .before .before in
-    let t = s .pre .0 in
-    cycle-done (networkIn (s .args .panel .now) (s .args .program .now)) (moduleIn (s .args .panel .now) (s .args .program .now)) (t .laid) (t .processors-high) (t .slots-high) (handIn (s .args .panel .now)) (s .args .memory .now) _ _ _ _
-    (s .pre .1 .1 .0) (s .pre .1 .1 .1) (c .before .before .before .before .before .before .run-slots .ensures) (c .before .before .alternate .ensures)
+    let slots = c .before .before .before .before .before .before in
+    let start = slots .before .before .before .before .before in
+    let t = start .pre .0 in
+    cycle-done (networkIn (start .args .panel .now) (start .args .program .now)) (moduleIn (start .args .panel .now) (start .args .program .now)) (t .laid) (t .processors-high) (t .slots-high) (handIn (start .args .panel .now)) (start .args .memory .now) _ _ _ _
+    (start .pre .1 .1 .0) (start .pre .1 .1 .1) (slots .run-slots .ensures) (c .before .before .alternate .ensures)
 
 pub run-cycle-spec : {M : Type 1} → statement M
 run-cycle-spec = tie.close (tie.spec (λ c κs. search needs) (λ c κs. search needs) (λ c. search needs) returns)

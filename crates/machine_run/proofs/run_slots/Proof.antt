@@ -35,12 +35,13 @@ run-slot-requires c κs =
 loop-again : tie.Need-loop-again Inv-loop μ-loop
 unfolding moduleIn
 loop-again c =
-    let s = c .before .before .before .before .before .before .before .before .before in
-    let t = s .pre .0 in
-    let i = c .before .before .before .before .before .loop .inv in
-    let m = moduleIn (s .args .panel .now) (s .args .program .now) in
-    let next = slots-more _ m (t .laid) (t .processors-high) (t .slots-high) (handIn (s .args .panel .now)) (s .args .memory .now) (c .before .before .before .before .before .loop .memory) _ (c .before .before .before .before .before .loop .i) (omega (arith, s .pre .1 .1 .1, c .before .before .before .before .loop-test .taken)) (i .2) (c .before .before .run-slot .ensures) in
-    (omega arith, bytes-written (within (m .processors) (m .slots)) _ (s .args .memory .now) _ (s .pre .1 .0) next, next)
+    let turn = c .before .before .before .before .before in
+    let loop = turn .loop in
+    let start = turn .before .before .before .before in
+    let t = start .pre .0 in
+    let m = moduleIn (start .args .panel .now) (start .args .program .now) in
+    let next = slots-more _ m (t .laid) (t .processors-high) (t .slots-high) (handIn (start .args .panel .now)) (start .args .memory .now) (loop .memory) _ (loop .i) (omega (arith, start .pre .1 .1 .1, c .before .before .before .before .loop-test .taken)) (loop .inv .2) (c .before .before .run-slot .ensures) in
+    (omega arith, bytes-written (within (m .processors) (m .slots)) _ (start .args .memory .now) _ (start .pre .1 .0) next, next)
 
 returns : tie.Need-returns Inv-loop μ-loop
 returns c =

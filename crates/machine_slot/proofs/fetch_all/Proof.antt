@@ -37,17 +37,18 @@ evaluate-requires c κs =
 
 loop-again : tie.Need-loop-again Inv-loop μ-loop
 loop-again c =
-    let s = c .before .before .before .before .before .before .before .before .before .before in
-    let loop = c .before .before .before .before .loop in
+    let turn = c .before .before .before .before in
+    let start = turn .before .before .before .before .before .before in
+    let loop = turn .loop in
     let line = c .before .before .instruction-in .ensures in
-    let w = memoryOf (s .args .memory .now) in (
+    let w = memoryOf (start .args .memory .now) in (
       omega arith,
       simp length-set (loop .inv .1),
       simp length-set (loop .inv .2),
       first-more _ (loop .results) (loop .p) _ (omega arith) (loop .inv .3)
-          (rw (line, evaluated-line (s .args .panel .now) (s .args .program .now) w (loop .p) (s .args .slot .0)) at (c .before .evaluate .ensures)),
+          (rw (line, evaluated-line (start .args .panel .now) (start .args .program .now) w (loop .p) (start .args .slot .0)) at (c .before .evaluate .ensures)),
       first-more _ (loop .sent) (loop .p) _ (omega arith) (loop .inv .4)
-          (rw (line, sent-line (s .args .panel .now) (s .args .program .now) w (loop .p) (s .args .slot .0)) at (c .fetch .ensures)),
+          (rw (line, sent-line (start .args .panel .now) (start .args .program .now) w (loop .p) (start .args .slot .0)) at (c .fetch .ensures)),
     )
 
 returns : tie.Need-returns Inv-loop μ-loop

@@ -9,10 +9,11 @@ use Rattle.machine_slot.proofs.run_slot.Tie as tie
 returns : tie.Need-returns
 unfolding moduleIn
 returns c =
-    let s = c .before .before .before .before .before .before .before .before .before .before .before .before .before .before .before in
-    let fetched = c .before .before .before .before .before .before .before .before .fetch-all .ensures in
-    slot-finished (networkIn (s .args .panel .now) (s .args .program .now)) (moduleIn (s .args .panel .now) (s .args .program .now)) (s .pre .0 .laid) (handIn (s .args .panel .now))
-    (s .args .slot .0) (s .pre .1 .1 .1) _ _ (s .args .memory .now) _ (s .args .processors) (s .pre .1 .1 .0)
+    let fetch = c .before .before .before .before .before .before .before .before in
+    let start = fetch .before .before .before .before .before .before .before in
+    let fetched = fetch .fetch-all .ensures in
+    slot-finished (networkIn (start .args .panel .now) (start .args .program .now)) (moduleIn (start .args .panel .now) (start .args .program .now)) (start .pre .0 .laid) (handIn (start .args .panel .now))
+    (start .args .slot .0) (start .pre .1 .1 .1) _ _ (start .args .memory .now) _ (start .args .processors) (start .pre .1 .1 .0)
     (fetched .0) (fetched .1) (c .before .before .store-all .ensures)
 
 pub run-slot-spec : {M : Type 1} → statement M

@@ -9,20 +9,23 @@ use Rattle.machine_slot.proofs.store.Tie as tie
 
 store-received-requires : tie.Need-store-received-requires
 store-received-requires c κs =
-    let s = c .before .before .before .before .before .before .before .before .before .before .before .before in (
+    let decoded = c .before .before .before .before .before .before in
+    let start = decoded .before .before .before .before .before .before in (
       search needs,
-      rw (c .before .before .before .before .before .before .instruction-in .ensures, s .pre .1 .0 .2)
-          (sender-fits _ _ (s .pre .0) (s .args .processor) (s .args .slot .0) (s .pre .1 .1 .0) (s .pre .1 .1 .1)),
+      rw (decoded .instruction-in .ensures, start .pre .1 .0 .2)
+          (sender-fits _ _ (start .pre .0) (start .args .processor) (start .args .slot .0) (start .pre .1 .1 .0) (start .pre .1 .1 .1)),
     )
 
 returns : tie.Need-returns
 unfolding moduleIn
 returns c =
-    let s = c .before .before .before .before .before .before .before .before .before .before .before .before .before .before .before in
-    let line = c .before .before .before .before .before .before .before .before .before .instruction-in .ensures in
-    both-stored (moduleIn (s .args .panel .now) (s .args .program .now)) (s .args .slot .0) (s .args .results .now) (s .args .sent .now) (s .args .memory .now) (s .pre .1 .0 .0)
-    (s .args .processor) (omega (arith, s .pre .0 .processors-high, s .pre .1 .1 .0)) (omega (arith, s .pre .0 .slots-high, s .pre .1 .1 .1)) _ _
-    (rw line at (c .before .before .before .before .before .before .store-result .ensures)) (rw line at (c .before .before .store-received .ensures))
+    let result = c .before .before .before .before .before .before in
+    let decoded = result .before .before .before in
+    let start = decoded .before .before .before .before .before .before in
+    let line = decoded .instruction-in .ensures in
+    both-stored (moduleIn (start .args .panel .now) (start .args .program .now)) (start .args .slot .0) (start .args .results .now) (start .args .sent .now) (start .args .memory .now) (start .pre .1 .0 .0)
+    (start .args .processor) (omega (arith, start .pre .0 .processors-high, start .pre .1 .1 .0)) (omega (arith, start .pre .0 .slots-high, start .pre .1 .1 .1)) _ _
+    (rw line at (result .store-result .ensures)) (rw line at (c .before .before .store-received .ensures))
 
 pub store-spec : {M : Type 1} → statement M
 store-spec =

@@ -32,9 +32,10 @@ store-requires c κs =
 
 loop-again : tie.Need-loop-again Inv-loop μ-loop
 loop-again c =
-    let s = c .before .before .before .before .before .before .before .before .before .before .before in
-    let i = c .before .before .before .before .before .loop .inv in
-    let next = processor-stored (moduleIn (s .args .panel .now) (s .args .program .now)) (s .args .slot .0) (s .args .results .now) (s .args .sent .now) (s .args .memory .now) (c .before .before .before .before .before .loop .memory) _ (c .before .before .before .before .before .loop .p) (i .2) (c .before .before .store .ensures) in
+    let turn = c .before .before .before .before .before in
+    let start = turn .before .before .before .before .before .before in
+    let loop = turn .loop in
+    let next = processor-stored (moduleIn (start .args .panel .now) (start .args .program .now)) (start .args .slot .0) (start .args .results .now) (start .args .sent .now) (start .args .memory .now) (loop .memory) _ (loop .p) (loop .inv .2) (c .before .before .store .ensures) in
     (omega arith, ap length next ∙ written-length _ _ _, next)
 
 returns : tie.Need-returns Inv-loop μ-loop

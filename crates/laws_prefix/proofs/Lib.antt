@@ -1,0 +1,3 @@
+pub mod Net
+pub mod Module
+pub mod Stim

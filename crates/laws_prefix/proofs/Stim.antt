@@ -1,0 +1,85 @@
+-- A STIM has at most 1,245,146 bytes, and one byte more is surplus: what follows that one changes no answer.
+use Prim.Native.Nat.{ℕ, zero, suc, _+_, _*_, _<_, _≤_}
+use mathlib.Core.Path.{_≡_, refl}
+use mathlib.Core.Bool.{Bool, true, false}
+use mathlib.Core.List.{List}
+use native.Mathlib.Omega.{arith}
+use lib.Dec.{leb}
+use lib.ListN.{length, take, length-take}
+use borrow.Author.Tests.{le-leb, lt-leb, leb-true, leb-false}
+use Rattle.fields.specs.Line.{isLineAt}
+use Rattle.model.specs.Refusal.{Check, first, unless}
+use Rattle.model.specs.Network.{Network}
+use Rattle.model.specs.Stimulus.{stimLine, stimTime, stimSignal, stimValue, stimLimit, isEnd, timeBefore, rising, givesValue, mayGive, stimGiven, stimEnd, stimLines, stimCheck}
+use Rattle.fields.proofs.Taken.{number-take, line-take}
+
+module _ (n : Network) (m : ℕ) (stim : List ℕ) (long : 1245147 ≤ m) where
+  abbrev taken : List ℕ
+  taken = take m stim
+
+  module _ (i : ℕ) (h : i < stimLimit) where
+    line-same : isLineAt taken (stimLine i) 3 ≡ isLineAt stim (stimLine i) 3
+    line-same = line-take m stim (19 * i) 3 (omega arith)
+
+    time-same : stimTime taken i ≡ stimTime stim i
+    time-same = number-take m stim (19 * i) (omega arith)
+
+    signal-same : stimSignal taken i ≡ stimSignal stim i
+    signal-same = number-take m stim (19 * i + 6) (omega arith)
+
+    value-same : stimValue taken i ≡ stimValue stim i
+    value-same = number-take m stim (19 * i + 12) (omega arith)
+
+    length-same : leb (length taken) (stimLine (i + 1)) ≡ leb (length stim) (stimLine (i + 1))
+    length-same = go (leb (length stim) (stimLine (i + 1))) refl
+      where
+        go : (b : Bool) → leb (length stim) (stimLine (i + 1)) ≡ b → leb (length taken) (stimLine (i + 1)) ≡ b
+        go true e = le-leb (length taken) (stimLine (i + 1)) (omega (arith, length-take m stim, leb-true (length stim) (stimLine (i + 1)) e))
+        go false e = lt-leb (length taken) (stimLine (i + 1)) (omega (arith, length-take m stim, leb-false (length stim) (stimLine (i + 1)) e))
+
+    is-end-same : isEnd taken i ≡ isEnd stim i
+    unfolding isEnd
+    is-end-same = rw (signal-same, value-same)
+
+  before-same : (i : ℕ) → i < stimLimit → timeBefore taken i ≡ timeBefore stim i
+  unfolding timeBefore
+  before-same zero h = refl
+  before-same (suc i) h = time-same i (omega arith)
+
+  rising-same : (i : ℕ) → i < stimLimit → rising taken i ≡ rising stim i
+  unfolding rising
+  rising-same zero h = refl
+  rising-same (suc i) h = rw (time-same i (omega arith), time-same (suc i) h, signal-same i (omega arith), signal-same (suc i) h)
+
+  module _ (i : ℕ) (h : i < stimLimit) where
+    end-same : stimEnd taken i ≡ stimEnd stim i
+    unfolding stimEnd
+    end-same = rw (before-same i h, time-same i h, length-same i h)
+
+    given-same : stimGiven n taken i ≡ stimGiven n stim i
+    unfolding stimGiven givesValue mayGive
+    given-same = rw (time-same i h, signal-same i h, value-same i h, rising-same i h)
+
+  lines-same : (left i : ℕ) → i + left ≤ stimLimit → stimLines n taken left i ≡ stimLines n stim left i
+  unfolding stimLines
+  lines-same zero i h = refl
+  lines-same (suc left) i h = rw (line-same i low, is-end-same i low) (go (isEnd stim i) (lines-same left (i + 1) (omega arith)))
+    where
+      low : i < stimLimit
+      low = omega arith
+
+      rest : List ℕ → Bool → Check
+      rest file b = elim b [ true ↦ stimEnd file i | false ↦ first (stimGiven n file i) (stimLines n file left (i + 1)) ]
+
+      go : (b : Bool) → stimLines n taken left (i + 1) ≡ stimLines n stim left (i + 1)
+          → first (unless (isLineAt stim (stimLine i) 3) 30 (i + 1)) (rest taken b) ≡ first (unless (isLineAt stim (stimLine i) 3) 30 (i + 1)) (rest stim b)
+      go true e = rw (end-same i low)
+      go false e = rw (given-same i low, e)
+
+  check-same : stimCheck n taken ≡ stimCheck n stim
+  unfolding stimCheck
+  check-same = lines-same stimLimit 0 (omega arith)
+
+-- 1,245,146 bytes are 65,534 lines
+pub stim-prefix : (n : Network) (stim : List ℕ) → stimCheck n (take 1245147 stim) ≡ stimCheck n stim
+stim-prefix n stim = check-same n 1245147 stim (omega arith)

@@ -1,0 +1,66 @@
+-- The laws of `Cycles` for the machine that the working tables hold, in the words of the contracts.
+use Prim.Native.Nat.{ℕ, _+_, _≤_}
+use mathlib.Core.Path.{_≡_}
+use mathlib.Core.Bool.{Bool, true, false}
+use mathlib.Core.List.{List}
+use lib.ListN.{length}
+use Rattle.model.specs.Machine.{Memory}
+use Rattle.model.specs.Session.{ticks, watched}
+use Rattle.buffers_memory.specs.Memory.{memoryLength, memoryOf, withMemory}
+use Rattle.buffers_tables.specs.Panel.{processorsIn, slotsIn, watchedIn, maskIn, handIn, processorIn, slotIn}
+use Rattle.buffers_tables.specs.Tables.{Tables, networkIn, moduleIn}
+use Rattle.machine_run.specs.Running.{cycleIn, watchedValue, runIn, Watching}
+use Rattle.machine_run.proofs.Cycles.{QuietTo, cycles-none, cycles-more, stop-told, quiet-more, ran-stopped, ran-whole}
+
+module _ {panel program : List ℕ} (t : Tables panel program) (old : List ℕ) where
+  -- the memory after j cycles
+  abbrev after : ℕ → Memory
+  after j = ticks (cycleIn panel program) j (memoryOf old)
+
+  -- the bytes with a memory of the module's processors and slots
+  abbrev bytes : Memory → List ℕ → List ℕ
+  bytes w l = withMemory (processorsIn panel) (slotsIn panel) w l
+
+  abbrev stops : Memory → Bool
+  stops w = watched (maskIn panel) (watchedValue panel w)
+
+  abbrev Quiet : ℕ → Type 0
+  Quiet j = QuietTo (cycleIn panel program) stops (memoryOf old) j
+
+  pub none-done : length old ≡ memoryLength → old ≡ bytes (after 0) old
+  unfolding moduleIn
+  none-done = cycles-none (networkIn panel program) (moduleIn panel program) (t .laid) (t .processors-high) (t .slots-high) (handIn panel) old
+
+  pub one-more : (j : ℕ) {l r : List ℕ} → l ≡ bytes (after j) old → r ≡ bytes (cycleIn panel program (memoryOf l)) l → r ≡ bytes (after (j + 1)) old
+  unfolding moduleIn
+  one-more j = cycles-more (networkIn panel program) (moduleIn panel program) (t .laid) (t .processors-high) (t .slots-high) (handIn panel) old _ _ j
+
+  -- the test b of the value v at the place of the watched signal x
+  pub told : Watching panel → (j : ℕ) {x v : ℕ} {b : Bool} {l : List ℕ} → x ≡ watchedIn panel → l ≡ bytes (after j) old
+      → v ≡ memoryOf l .earlierLocal (processorIn panel x) (slotIn panel x) → b ≡ watched (maskIn panel) v → stops (after j) ≡ b
+  unfolding moduleIn
+  told watch j =
+      stop-told (networkIn panel program) (moduleIn panel program) (t .laid) (t .processors-high) (t .slots-high) (handIn panel) old (maskIn panel)
+      (processorIn panel) (slotIn panel) (watchedIn panel) (record { processor = watch .processor-low; slot = watch .slot-low }) j _ _ _ _
+
+  pub still-quiet : (j : ℕ) → Quiet j → stops (after (j + 1)) ≡ false → Quiet (j + 1)
+  unfolding moduleIn
+  still-quiet =
+      quiet-more (networkIn panel program) (moduleIn panel program) (t .laid) (t .processors-high) (t .slots-high) (handIn panel) old stops 0
+
+  -- the answer of a run, and the bytes that it leaves
+  module _ (k : ℕ) where
+    abbrev Answers : ℕ → Bool → List ℕ → Type 0
+    Answers count stopped l =
+        (count ≡ runIn panel program k (memoryOf old) .count) × (stopped ≡ runIn panel program k (memoryOf old) .stopped)
+        × (l ≡ bytes (runIn panel program k (memoryOf old) .state) old)
+
+    pub stopped-run : (j : ℕ) {l : List ℕ} → j + 1 ≤ k → Quiet j → l ≡ bytes (after (j + 1)) old → stops (after (j + 1)) ≡ true → Answers (j + 1) true l
+    unfolding moduleIn runIn
+    stopped-run j =
+        ran-stopped (networkIn panel program) (moduleIn panel program) (t .laid) (t .processors-high) (t .slots-high) (handIn panel) old stops k j _
+
+    pub whole-run : {l : List ℕ} → Quiet k → l ≡ bytes (after k) old → Answers k false l
+    unfolding moduleIn runIn
+    whole-run =
+        ran-whole (networkIn panel program) (moduleIn panel program) (t .laid) (t .processors-high) (t .slots-high) (handIn panel) old stops k _
