@@ -1,0 +1,3 @@
+pub mod Sends
+pub mod Operands
+pub mod Told
