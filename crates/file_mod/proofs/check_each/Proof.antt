@@ -1,5 +1,5 @@
 -- The invariant: the lines before line k pass the test.
-use Prim.Native.Nat.{_-_, _≤_, _<_, _*_}
+use Prim.Native.Nat.{_+_, _-_, _≤_, _<_, _*_}
 use mathlib.Core.Path.{_≡_, refl}
 use native.Mathlib.Omega.{arith}
 use borrow.Author.Tests.{not-true, not-false}
@@ -49,8 +49,9 @@ loop-again c =
     let count = line .before .before .before in
     let s = count .before .before .before in
     let here = rw (line .processor-of .ensures, judged .before .slot-of .ensures) at (judged .line-right .ensures) in
+    let low : loop .k + 1 ≤ count .line-count .result = omega arith in
     let tested = test-goes-on (s .args .test) (network (s .args .net .now)) (s .args .modfile .now) _ _ (s .pre .laid .sized) _ (loop .k) in
-    (omega arith, tested (count .line-count .ensures .0) (loop .inv .1) _ here (not-false _ (c .if1 .left)))
+    (low, tested (count .line-count .ensures .0) (loop .inv .1) _ here (not-false _ (c .if1 .left)))
 
 returns-2 : tie.Need-returns-2 Inv-loop μ-loop
 returns-2 c =
