@@ -1,4 +1,5 @@
 pub mod Field
 pub mod Line
+pub mod Numbers
 pub mod Reading
 pub mod Scan

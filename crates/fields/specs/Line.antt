@@ -1,11 +1,11 @@
 -- "A line is fields of six columns, .., then byte 10" (01, Files).
-use Prim.Native.Nat.{ℕ, zero, suc, _+_, _*_}
+use Prim.Native.Nat.{ℕ, _+_, _*_}
 use mathlib.Core.Bool.{Bool}
-use mathlib.Core.List.{List, [], _∷_}
+use mathlib.Core.List.{List}
 use lib.Dec.{eqb}
 use lib.ListN.{getD}
 use Rattle.logic.specs.Test.{_and_, all}
-use Rattle.fields.specs.Field.{isFieldAt, numberAt}
+use Rattle.fields.specs.Field.{isFieldAt}
 
 abbrev pub newline : ℕ
 newline = 10
@@ -17,8 +17,3 @@ lineLength n = 6 * n + 1
 -- a line of n fields stands at a place of a file
 unfoldable pub isLineAt : List ℕ → ℕ → ℕ → Bool
 isLineAt bytes at n = all n (λ k. isFieldAt bytes (at + 6 * k)) and eqb (getD bytes (at + 6 * n) 0) newline
-
--- the numbers of the n fields at a place
-unfoldable pub numbersAt : List ℕ → ℕ → ℕ → List ℕ
-numbersAt bytes at zero = []
-numbersAt bytes at (suc n) = numberAt bytes at ∷ numbersAt bytes (at + 6) n

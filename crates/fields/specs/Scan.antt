@@ -1,4 +1,5 @@
--- How the code reads a field, column by column: it mirrors private functions, and `readField` is what a caller reads.
+-- How the code reads a field, column by column, and a field's number by low halves: it mirrors private functions and need not be
+-- believed. `readField` and `numberAt` are what a caller reads.
 use Prim.Native.Nat.{ℕ, _+_, _-_, _*_, _%_}
 use mathlib.Core.List.{List, [], _∷_}
 use lib.Dec.{eqb, leb}

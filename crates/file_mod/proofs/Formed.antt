@@ -11,30 +11,33 @@ use Rattle.model.specs.ModuleFile.{modProcessors, modSlots, modHeader, modSlot,
 use Rattle.model.proofs.Refusals.{first-left, first-right, first-first}
 use Rattle.model.proofs.Accepted.{net-size}
 use Rattle.file_mod_lines.specs.declared.ModAnswer.{ModAnswer}
-use Rattle.file_mod_lines.specs.Answer.{Answers, LinesLaid, SignalsWithin}
+use Rattle.file_mod_lines.specs.Answer.{Answers}
 use Rattle.file_mod_lines.specs.Form.{formCheck}
 use Rattle.file_mod_lines.proofs.Stages.{header-sized}
 use Rattle.file_mod.specs.Testing.{moduleCheck}
-use Rattle.file_mod.proofs.Slots.{slot-laid}
+use Rattle.file_mod_table.specs.Line.{LinesLaid}
+use Rattle.file_mod_table.proofs.Slots.{laid-slot}
+use Rattle.file_mod.specs.Formed.{Formed}
 
-module _ (net l : List ℕ) (p c : ℕ) (accepted : netCheck 4096 net ≡ pass) (formed : formCheck (network net) l ≡ pass)
-    (processors : p ≡ modProcessors l) (slots : c ≡ modSlots l) where
-  pub signals-few : netSize net ≤ 4096
-  signals-few = net-size 4096 net accepted .1
+pub signals-few : (net : List ℕ) (x : ℕ) → netCheck 4096 net ≡ pass → x ≡ netSize net → x ≤ 4096
+signals-few net x accepted e = rw e (net-size 4096 net accepted .1)
 
-  pub form-laid : LinesLaid l p c
-  unfolding network
-  form-laid =
-      record {
-        sized = header-sized l p c (first-left _ _ formed) processors slots;
-        network = network net;
-        few = signals-few;
-        lines = first-left _ _ (first-right _ _ formed);
-      }
-
-  pub form-within : SignalsWithin l p c (netSize net)
-  unfolding network form-laid
-  form-within q i low-q low-i = slot-laid l p c form-laid q i low-q low-i .signal
+pub formed : (net l : List ℕ) (p c : ℕ) → netCheck 4096 net ≡ pass → formCheck (network net) l ≡ pass → p ≡ modProcessors l
+    → c ≡ modSlots l → Formed net l p c
+unfolding network
+formed net l p c accepted right processors slots =
+    let laid : LinesLaid l p c =
+    record {
+      sized = header-sized l p c (first-left _ _ right) processors slots;
+      network = network net;
+      few = net-size 4096 net accepted .1;
+      lines = first-left _ _ (first-right _ _ right);
+    } in
+    record {
+      accepted = accepted;
+      laid = laid;
+      within = λ q i low-q low-i. laid-slot l p c q i laid low-q low-i .signal;
+    }
 
 pub net-signals : (net : List ℕ) (x : ℕ) → x ≡ numberAt net 6 → network net .size ≡ x
 unfolding network

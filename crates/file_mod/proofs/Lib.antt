@@ -1,7 +1,4 @@
-pub mod Slots
+pub mod Numbered
 pub mod Counts
-pub mod Named
-pub mod Sources
 pub mod Testing
-pub mod Told
 pub mod Formed

@@ -1,4 +1,5 @@
--- How the code finds refusal 22 in an array of counts: it mirrors a private function, and `placed` is what a caller reads.
+-- How the code finds refusal 22 in an array of counts: it mirrors a private function and need not be
+-- believed. `placed` is what a caller reads.
 use Prim.Native.Nat.{ℕ, suc}
 use mathlib.Core.List.{List}
 use lib.Dec.{eqb}

@@ -1,3 +1,3 @@
+pub mod Formed
 pub mod Counting
-pub mod Sent
 pub mod Testing

@@ -1,5 +1,5 @@
 -- The tests of every line (01, Refusals: "24, 25, 23, each over all lines first"): what a line has to be, how a line that is not is refused,
--- and the check of them all.
+-- and the check of them all. They mirror private functions and need not be believed; `modCheck` is what a caller reads.
 use Prim.Native.Nat.{ℕ}
 use mathlib.Core.Bool.{Bool}
 use mathlib.Core.List.{List}

@@ -1,21 +1,23 @@
 -- Line 1: its fields are right where it is, and what its check answers.
-use Prim.Native.Nat.{ℕ, _+_, _*_, _<_, _≤_}
+use Prim.Native.Nat.{ℕ, _+_, _*_, _<_}
 use mathlib.Core.Path.{_≡_, refl, ap}
-use mathlib.Core.Bool.{Bool, true, false}
+use mathlib.Core.Bool.{Bool, true, false, not}
 use mathlib.Core.List.{List}
 use native.Mathlib.Omega.{arith}
-use lib.Dec.{eqb}
-use borrow.Author.Tests.{eq-eqb, ne-eqb, le-leb, lt-leb}
+use lib.Dec.{eqb, leb}
+use borrow.Author.Tests.{eq-eqb, ne-eqb, not-true, not-false}
 use Rattle.logic.specs.Test.{_and_, all}
 use Rattle.logic.proofs.Tests.{all-more, all-fails}
+use Rattle.logic.proofs.Judged.{chain-stops, chain-goes-on}
 use Rattle.fields.specs.Field.{isFieldAt, numberAt}
 use Rattle.logic.specs.Choice.{if_then_else_}
 use Rattle.fields.specs.Line.{isLineAt, lineLength}
 use Rattle.fields.specs.Reading.{readLine}
 use Rattle.fields.specs.declared.Line.the-variants.{Next, Broken}
-use Rattle.model.specs.Refusal.{fail, first, unless}
+use Rattle.model.specs.Refusal.{pass, fail, first, unless}
 use Rattle.model.specs.ModuleFile.{modField, modProcessors, modSlots, modHeader}
 use Rattle.model.proofs.RightLine.{line-field}
+use Rattle.file_mod_lines.specs.Layout.{sizesLaid}
 
 -- a field of a right line, its place given in other words
 pub field-of-line : (l : List ℕ) (at n : ℕ) → isLineAt l at n ≡ true → (k place : ℕ) → k < n → place ≡ at + 6 * k → isFieldAt l place ≡ true
@@ -57,50 +59,37 @@ pub header-broken : (l : List ℕ) → readLine l 0 14 ≡ Broken → modHeader 
 unfolding modHeader first unless
 header-broken l e = rw (line-broken l 0 14 e)
 
--- 21: line 1 has 14 fields, the first two of them p and c
-module _ (l : List ℕ) (p c next : ℕ) (e : readLine l 0 14 ≡ Next next) (ep : p ≡ modProcessors l) (ec : c ≡ modSlots l) where
-  pub no-processors : p < 1 → modHeader l ≡ fail 21 1
-  unfolding modHeader first unless _and_
-  no-processors h = rw (line-read l 0 14 next e, lt-leb 1 (modProcessors l) (omega arith))
+-- 21: line 1 has 14 fields
+module _ (l : List ℕ) (right : isLineAt l 0 14 ≡ true) where
+  abbrev zeros : Bool
+  zeros = all 12 (λ k. eqb (modField l 0 (2 + k)) 0)
 
-  module _ (p-low : 1 ≤ p) where
-    pub many-processors : 16 < p → modHeader l ≡ fail 21 1
-    unfolding modHeader first unless _and_
-    many-processors h =
-        rw (line-read l 0 14 next e, le-leb 1 (modProcessors l) (omega arith), lt-leb (modProcessors l) 16 (omega arith))
+  together : (a b c d e : Bool) → (a and b) and (c and d) and e ≡ (a and b and c and d) and e
+  unfolding _and_
+  together true true true true e = refl
+  together true true true false e = refl
+  together true true false d e = refl
+  together true false c d e = refl
+  together false b c d e = refl
 
-    module _ (p-high : p ≤ 16) where
-      pub no-slots : c < 1 → modHeader l ≡ fail 21 1
-      unfolding modHeader first unless _and_
-      no-slots h =
-          rw (
-            line-read l 0 14 next e,
-            le-leb 1 (modProcessors l) (omega arith),
-            le-leb (modProcessors l) 16 (omega arith),
-            lt-leb 1 (modSlots l) (omega arith),
-          )
+  header-judged : modHeader l ≡ unless (sizesLaid (modProcessors l) (modSlots l) and zeros) 21 1
+  unfolding modHeader sizesLaid first unless
+  header-judged = rw (right, together (leb 1 (modProcessors l)) (leb (modProcessors l) 16) (leb 1 (modSlots l)) (leb (modSlots l) 256) zeros)
 
-      module _ (c-low : 1 ≤ c) where
-        pub many-slots : 256 < c → modHeader l ≡ fail 21 1
-        unfolding modHeader first unless _and_
-        many-slots h =
-            rw (
-              line-read l 0 14 next e,
-              le-leb 1 (modProcessors l) (omega arith),
-              le-leb (modProcessors l) 16 (omega arith),
-              le-leb 1 (modSlots l) (omega arith),
-              lt-leb (modSlots l) 256 (omega arith),
-            )
+  -- the sizes read are judged r, and the zeros z
+  module _ (p c : ℕ) (is-p : p ≡ modProcessors l) (is-c : c ≡ modSlots l) (r : Bool) (judged : r ≡ sizesLaid p c) where
+    sizes-judged : r ≡ sizesLaid (modProcessors l) (modSlots l)
+    sizes-judged = rw (← is-p, ← is-c) judged
 
-        pub header-zeros : c ≤ 256 → (z : Bool) → z ≡ all 12 (λ k. eqb (modField l 0 (2 + k)) 0) → modHeader l ≡ unless z 21 1
-        unfolding modHeader first unless _and_
-        header-zeros h z q =
-            rw (
-              q,
-              line-read l 0 14 next e,
-              le-leb 1 (modProcessors l) (omega arith),
-              le-leb (modProcessors l) 16 (omega arith),
-              le-leb 1 (modSlots l) (omega arith),
-              le-leb (modSlots l) 256 (omega arith),
-            )
-            refl
+    pub sizes-wrong : not r ≡ true → modHeader l ≡ fail 21 1
+    unfolding unless
+    sizes-wrong e = rw (header-judged, chain-stops r _ zeros sizes-judged e)
+
+    module _ (sized : not r ≡ false) (z : Bool) (zero : z ≡ zeros) where
+      pub zeros-wrong : not z ≡ true → modHeader l ≡ fail 21 1
+      unfolding unless
+      zeros-wrong e = rw (header-judged, chain-goes-on r _ zeros sizes-judged sized, ← zero, not-true z e)
+
+      pub header-right : not z ≡ false → modHeader l ≡ pass
+      unfolding unless
+      header-right e = rw (header-judged, chain-goes-on r _ zeros sizes-judged sized, ← zero, not-false z e)

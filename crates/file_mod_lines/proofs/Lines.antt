@@ -10,11 +10,12 @@ use lib.Dec.{eqb}
 use lib.ListN.{length, getD}
 use borrow.Author.Tests.{le-leb, lt-leb}
 use Rattle.logic.specs.Test.{_and_, all}
-use Rattle.logic.proofs.Tests.{and-true, all-more, all-fails, all-four}
+use Rattle.logic.proofs.Tests.{and-true, all-more, all-fails, all-same}
 use Rattle.fields.specs.Field.{isFieldAt}
 use Rattle.fields.specs.Line.{isLineAt}
 use Rattle.model.specs.Refusal.{Check, fail, pass, first, unless, firstBelow}
 use Rattle.model.specs.Network.{Network}
+use Rattle.model.specs.Module.{switchPresent}
 use Rattle.model.specs.ModuleFile.{modLine, modProcessors, modSlots, modIndex, moduleOf, locationLayout, operandLayout, sendLayout, senderLayout, lineLayout, modSlot, eachLine, modSurplus}
 use Rattle.model.proofs.Refusals.{below-pass, below-first, first-both}
 use Rattle.fields.specs.Reading.{readField}
@@ -22,24 +23,28 @@ use Rattle.fields.specs.declared.Field.the-variants.{Number, Misformed}
 use Rattle.fields.proofs.Lines.{field-right, field-wrong}
 use Rattle.file_mod_lines.specs.Answer.{Sized}
 use Rattle.instruction.specs.Sender.{senderLaid}
-use Rattle.file_mod_lines.specs.Layout.{pairLaid, operandsAt, lineAt}
+use Rattle.file_mod_lines.specs.Layout.{pairLaid, pairAt, operandsAt, lineAt}
 use Rattle.logic.proofs.Judged.{and-false}
 
-pub all-4 : (f : ℕ → Bool) → all 4 f ≡ f 0 and f 1 and f 2 and f 3
-all-4 = all-four
+-- an operand's layout, by the judgement of its pair
+operand-judged : (l : List ℕ) (p i j : ℕ)
+    → operandLayout (moduleOf l) p i j ≡ pairAt l (modLine (modIndex l p i) + 18 + 12 * j) switchPresent (modSlots l)
+unfolding operandLayout locationLayout moduleOf pairLaid
+operand-judged l p i j =
+    let at = modLine (modIndex l p i) in
+    let e1 : at + 6 * (3 + 2 * j) ≡ at + 18 + 12 * j = omega arith in
+    let e2 : at + 6 * (4 + 2 * j) ≡ at + 18 + 12 * j + 6 = omega arith in
+    rw (e1, e2) refl
 
 -- a line's layout, by the judgement at its place
 pub line-judged : (n : Network) (l : List ℕ) (p i : ℕ)
     → lineLayout n l p i ≡ lineAt l (modLine (modIndex l p i)) p i (n .size) (modProcessors l) (modSlots l)
-unfolding lineLayout operandLayout locationLayout sendLayout senderLayout moduleOf lineAt operandsAt pairLaid senderLaid
+unfolding lineLayout locationLayout sendLayout senderLayout moduleOf lineAt operandsAt pairLaid senderLaid
 line-judged n l p i =
     let at = modLine (modIndex l p i) in
-    let e1 : at + 18 + 6 ≡ at + 24 = omega arith in
-    let e2 : at + 30 + 6 ≡ at + 36 = omega arith in
-    let e3 : at + 42 + 6 ≡ at + 48 = omega arith in
-    let e4 : at + 54 + 6 ≡ at + 60 = omega arith in
-    let e5 : at + 66 + 6 ≡ at + 72 = omega arith in
-    rw (all-four (operandLayout (moduleOf l) p i), add-zero at, e1, e2, e3, e4, e5) refl
+    let operands = all-same (operandLayout (moduleOf l) p i) (λ j. pairAt l (at + 18 + 12 * j) switchPresent (modSlots l)) 4 (λ j low. operand-judged l p i j) in
+    let location : at + 66 + 6 ≡ at + 72 = omega arith in
+    rw (operands, add-zero at, location) refl
 
 -- the check of line k after the first
 abbrev pub lineCheck : Network → List ℕ → ℕ → Check
@@ -119,10 +124,10 @@ module _ (l : List ℕ) (p c : ℕ) (sized : Sized l p c) (signals lines k : ℕ
       let e : k ≡ modProcessors l * modSlots l = omega (arith, line-total l p c sized) in
       rw (← e) (before n size)
 
-  pub lines-stop : k < lines → {number returned : ℕ} → lineCheck n l k ≡ fail number returned
+  pub lines-stop : k < lines → (number returned : ℕ) → lineCheck n l k ≡ fail number returned
       → eachLine l (modSlot n l) ≡ fail number returned
   unfolding eachLine
-  lines-stop low e =
+  lines-stop low number returned e =
       below-stops (lineCheck n l) k (before n size) (modProcessors l * modSlots l) (omega (arith, line-total l p c sized)) e
 
 -- what stands after the last line

@@ -1,10 +1,9 @@
 -- MOD's answers (01, Refusals): the number and the returned value of each.
-use Prim.Native.Nat.{ℕ, _≤_, _<_}
+use Prim.Native.Nat.{ℕ, _≤_}
 use mathlib.Core.Path.{_≡_}
 use mathlib.Core.List.{List}
 use Rattle.model.specs.Refusal.{Check, pass, fail}
-use Rattle.model.specs.Network.{Network}
-use Rattle.model.specs.ModuleFile.{modProcessors, modSlots, moduleOf, modSlot, eachLine}
+use Rattle.model.specs.ModuleFile.{modProcessors, modSlots}
 use Rattle.file_mod_lines.specs.declared.ModAnswer.{ModAnswer}
 use Rattle.file_mod_lines.specs.declared.ModAnswer.the-variants.{Accepted, Misformed, Layout, Placement, Send, Reception, WrongOperand}
 
@@ -41,14 +40,3 @@ pub record Sized (modfile : List ℕ) (p c : ℕ) : Type 0 where
   pub processors-high : p ≤ 16
   pub slots-low : 1 ≤ c
   pub slots-high : c ≤ 256
-
--- the lines after the first are right too, those of a network of at most 4096 signals
-pub record LinesLaid (modfile : List ℕ) (p c : ℕ) : Type 0 where
-  pub sized : Sized modfile p c
-  pub network : Network
-  pub few : network .size ≤ 4096
-  pub lines : eachLine modfile (modSlot network modfile) ≡ pass
-
--- every line's signal is at most `size`
-abbrev pub SignalsWithin : List ℕ → ℕ → ℕ → ℕ → Type 0
-SignalsWithin modfile p c size = (q i : ℕ) → q < p → i < c → moduleOf modfile .signal q i ≤ size

@@ -1,12 +1,17 @@
--- How the code judges a line's layout, at the line's place: it mirrors private functions, and `lineLayout` is what a caller reads.
-use Prim.Native.Nat.{ℕ, _+_}
+-- How the code judges line 1 and a line's layout, at the line's place: it mirrors private functions and need not be believed. `modHeader`
+-- and `lineLayout` are what a caller reads.
+use Prim.Native.Nat.{ℕ, _+_, _*_}
 use mathlib.Core.Bool.{Bool, not}
 use mathlib.Core.List.{List}
 use lib.Dec.{eqb, leb, ltb}
-use Rattle.logic.specs.Test.{_and_, _or_}
+use Rattle.logic.specs.Test.{_and_, _or_, all}
 use Rattle.fields.specs.Field.{numberAt}
 use Rattle.model.specs.Module.{localPresent, switchPresent, noPart}
 use Rattle.instruction.specs.Sender.{senderLaid}
+
+-- "P (1 to 16), C (1 to 256)"
+unfoldable pub sizesLaid : ℕ → ℕ → Bool
+sizesLaid p c = leb 1 p and leb p 16 and leb 1 c and leb c 256
 
 -- a pair, its part being most at most
 unfoldable pub pairLaid : ℕ → ℕ → ℕ → ℕ → Bool
@@ -17,11 +22,7 @@ pairAt modfile at most slots = pairLaid slots most (numberAt modfile at) (number
 
 -- the four operands of the line at a place
 unfoldable pub operandsAt : List ℕ → ℕ → ℕ → Bool
-operandsAt modfile at slots =
-    pairAt modfile (at + 18) switchPresent slots
-    and pairAt modfile (at + 30) switchPresent slots
-    and pairAt modfile (at + 42) switchPresent slots
-    and pairAt modfile (at + 54) switchPresent slots
+operandsAt modfile at slots = all 4 (λ j. pairAt modfile (at + 18 + 12 * j) switchPresent slots)
 
 -- the line of a processor and a slot
 unfoldable pub lineAt : List ℕ → ℕ → ℕ → ℕ → ℕ → ℕ → ℕ → Bool

@@ -13,7 +13,7 @@ ghost use Rattle.model.specs.Network.{Network};
 ghost use Rattle.model.specs.ModuleFile.{modProcessors, modSlots, modField, modHeader, modSlot, eachLine, modSurplus};
 ghost use Rattle.file_mod_lines.specs.Answer.{Answers, Sized};
 ghost use Rattle.file_mod_lines.specs.Form.{formCheck};
-ghost use Rattle.file_mod_lines.specs.Layout.{pairLaid, pairAt, operandsAt, lineAt};
+ghost use Rattle.file_mod_lines.specs.Layout.{sizesLaid, pairLaid, pairAt, operandsAt, lineAt};
 
 // MOD accepted with P and C, or refused: with a line, and at 22 with a signal.
 pub enum ModAnswer {
@@ -41,6 +41,22 @@ fn twelve_zeros(modfile: &[u8]) -> bool
     true
 }
 
+// "P (1 to 16), C (1 to 256)".
+fn sizes_right(p: u16, c: u16) -> bool
+    ensures { λ r. ⌜ r ≡ sizesLaid p c ⌝ }
+{
+    if p < 1 {
+        return false;
+    }
+    if 16 < p {
+        return false;
+    }
+    if c < 1 {
+        return false;
+    }
+    c <= 256
+}
+
 // Line 1: 20, then 21.
 fn check_header(modfile: &[u8]) -> ModAnswer
     ensures { λ r. ⌜ Answers (modProcessors (now (modfile .entry))) (modSlots (now (modfile .entry))) (modHeader (now (modfile .entry))) r ⌝ }
@@ -50,22 +66,13 @@ fn check_header(modfile: &[u8]) -> ModAnswer
     };
     let p = fields::number_at(modfile, 0);
     let c = fields::number_at(modfile, 6);
-    if p < 1 {
+    if !sizes_right(p, c) {
         return ModAnswer::Layout(1);
     }
-    if 16 < p {
+    if !twelve_zeros(modfile) {
         return ModAnswer::Layout(1);
     }
-    if c < 1 {
-        return ModAnswer::Layout(1);
-    }
-    if 256 < c {
-        return ModAnswer::Layout(1);
-    }
-    if twelve_zeros(modfile) {
-        return ModAnswer::Accepted(p, c);
-    }
-    ModAnswer::Layout(1)
+    ModAnswer::Accepted(p, c)
 }
 
 // A pair of a line: a part up to `most` and a location below C, or "Part 9 with location 0".
@@ -99,16 +106,14 @@ fn operands_laid(modfile: &[u8], at: usize, slots: u16) -> bool
     requires { ⌜ isLineAt (now modfile) at 14 ≡ true ⌝ }
     ensures { λ r. ⌜ r ≡ operandsAt (now (modfile .entry)) at slots ⌝ }
 {
-    if !pair_laid(modfile, at + 18, 3, slots) {
-        return false;
+    let mut j: usize = 0;
+    while j < 4 {
+        if !pair_laid(modfile, at + 18 + 12 * j, 3, slots) {
+            return false;
+        }
+        j += 1;
     }
-    if !pair_laid(modfile, at + 30, 3, slots) {
-        return false;
-    }
-    if !pair_laid(modfile, at + 42, 3, slots) {
-        return false;
-    }
-    pair_laid(modfile, at + 54, 3, slots)
+    true
 }
 
 // The line at a place has the layout of the given processor and slot, N, P and C being given.

@@ -16,9 +16,10 @@ use Rattle.logic.proofs.Tests.{all-same}
 use Rattle.fields.proofs.Taken.{number-take, line-take}
 use Rattle.model.specs.Refusal.{Check, pass, fail, first, unless}
 use Rattle.model.specs.Network.{Network}
+use Rattle.model.specs.Module.{switchPresent}
 use Rattle.model.specs.ModuleFile.{modField, modProcessors, modSlots, modIndex, modHeader, modSlot, eachLine, modSurplus, modCheck}
 use Rattle.model.proofs.Refusals.{first-second, first-stays, below-same}
-use Rattle.file_mod_lines.specs.Layout.{lineAt, operandsAt}
+use Rattle.file_mod_lines.specs.Layout.{lineAt, pairAt, operandsAt}
 use Rattle.file_mod_lines.proofs.Lines.{line-judged, line-index}
 use Rattle.file_mod_lines.proofs.Stages.{header-sized}
 
@@ -36,21 +37,20 @@ module _ (l : List ℕ) (long : ℕ) (enough : 348246 ≤ long) where
     unfolding cut
     field-kept x h = number-take long l x (omega arith)
 
+    operands-kept : (slots : ℕ) → operandsAt cut at slots ≡ operandsAt l at slots
+    unfolding operandsAt
+    operands-kept slots =
+        all-same (λ j. pairAt cut (at + 18 + 12 * j) switchPresent slots) (λ j. pairAt l (at + 18 + 12 * j) switchPresent slots) 4
+        (λ j h. rw (field-kept (at + 18 + 12 * j) (omega arith), field-kept (at + 18 + 12 * j + 6) (omega arith)))
+
     judged-kept : (p i size processors slots : ℕ) → lineAt cut at p i size processors slots ≡ lineAt l at p i size processors slots
-    unfolding lineAt operandsAt
+    unfolding lineAt
     judged-kept p i size processors slots =
         rw (
           field-kept at (omega arith),
           field-kept (at + 6) (omega arith),
           field-kept (at + 12) (omega arith),
-          field-kept (at + 18) (omega arith),
-          field-kept (at + 18 + 6) (omega arith),
-          field-kept (at + 30) (omega arith),
-          field-kept (at + 30 + 6) (omega arith),
-          field-kept (at + 42) (omega arith),
-          field-kept (at + 42 + 6) (omega arith),
-          field-kept (at + 54) (omega arith),
-          field-kept (at + 54 + 6) (omega arith),
+          operands-kept slots,
           field-kept (at + 66) (omega arith),
           field-kept (at + 66 + 6) (omega arith),
           field-kept (at + 78) (omega arith),

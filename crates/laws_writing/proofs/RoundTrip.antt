@@ -11,7 +11,8 @@ use borrow.Author.Tests.{eq-eqb, eqb-true, ltb-true, ltb-false}
 use Rattle.logic.specs.Test.{_and_, all}
 use Rattle.logic.proofs.Tests.{and-left, and-right, all-at, all-true}
 use Rattle.fields.specs.Field.{columnsAt, isFieldAt, numberAt, number}
-use Rattle.fields.specs.Line.{isLineAt, numbersAt, newline, lineLength}
+use Rattle.fields.specs.Line.{isLineAt, newline, lineLength}
+use Rattle.fields.specs.Numbers.{numbersAt}
 use Rattle.fields.specs.Reading.{readField, readLine}
 use Rattle.fields.specs.declared.Field.the-variants.{Number}
 use Rattle.fields.specs.declared.Line.the-variants.{Next}

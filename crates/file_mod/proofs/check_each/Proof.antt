@@ -1,11 +1,11 @@
 -- The invariant: the lines before line k pass the test.
-use Prim.Native.Nat.{_-_, _≤_, _<_, _*_}
+use Prim.Native.Nat.{_+_, _-_, _≤_, _<_, _*_}
 use mathlib.Core.Path.{_≡_, refl}
 use native.Mathlib.Omega.{arith}
 use borrow.Author.Tests.{not-true, not-false}
 use Rattle.model.specs.Refusal.{pass, firstBelow}
 use Rattle.model.specs.Netlist.{network}
-use Rattle.file_mod.proofs.Slots.{at-processor, at-slot}
+use Rattle.file_mod.proofs.Numbered.{line-numbered, signal-numbered}
 use Rattle.file_mod.proofs.Testing.{lineTest, test-stops, test-goes-on, test-passes}
 use borrow.Author.Needs.{needs}
 use Rattle.file_mod.proofs.check_each.Statement.{statement}
@@ -25,33 +25,41 @@ line-right-requires : tie.Need-line-right-requires Inv-loop μ-loop
 line-right-requires c κs =
     let s = c .before .before .before .before .before .before .before in
     let loop = c .before .before .before .loop in
-    let processor-of = c .before .processor-of in
-    let slot-of = c .slot-of in
     let low : loop .k < s .args .processors * s .args .slots = omega (arith, c .before .before .before .before .line-count .ensures .0) in
-    let low-p : processor-of .result < s .args .processors = omega (arith, processor-of .ensures, at-processor _ _ _ (s .pre .0) (loop .k) low) in
-    let low-i : slot-of .result < s .args .slots = omega (arith, slot-of .ensures, at-slot _ _ _ (s .pre .0) (loop .k) low) in
-    (s .pre .0, (s .pre .1 .0, (s .pre .1 .1, (low-p, low-i))))
+    let line = line-numbered _ _ _ (s .pre .laid) (loop .k) low in
+    rw (c .before .processor-of .ensures, c .slot-of .ensures) (line, (s .pre .accepted, signal-numbered _ _ _ _ (s .pre) (loop .k) low))
 
 returns : tie.Need-returns Inv-loop μ-loop
 returns c =
-    let s = c .before .before .before .before .before .before .before .before .before .before in
-    let loop = c .before .before .before .before .before .before .loop in
-    let here = rw (c .before .before .before .before .processor-of .ensures, c .before .before .before .slot-of .ensures) at (c .before .before .line-right .ensures) in
-    let stops = test-stops (s .args .test) (network (s .args .net .now)) (s .args .modfile .now) _ _ (s .pre .0 .sized) _ (loop .k) (c .before .before .before .before .before .before .before .line-count .ensures .0) (loop .inv .1) (c .before .before .before .before .before .loop-test .taken) _ here (not-true _ (c .before .if1 .taken)) in
-    rw (c .refused-at .ensures) stops
+    let judged = c .before .before in
+    let line = judged .before .before in
+    let loop = line .before .before .loop in
+    let count = line .before .before .before in
+    let s = count .before .before .before in
+    let here = rw (line .processor-of .ensures, judged .before .slot-of .ensures) at (judged .line-right .ensures) in
+    let tested = test-stops (s .args .test) (network (s .args .net .now)) (s .args .modfile .now) _ _ (s .pre .laid .sized) _ (loop .k) in
+    rw (c .refused-at .ensures)
+    (tested (count .line-count .ensures .0) (loop .inv .1) (line .before .loop-test .taken) _ here (not-true _ (c .before .if1 .taken)))
 
 loop-again : tie.Need-loop-again Inv-loop μ-loop
 loop-again c =
-    let s = c .before .before .before .before .before .before .before .before .before in
-    let loop = c .before .before .before .before .before .loop in
-    let here = rw (c .before .before .before .processor-of .ensures, c .before .before .slot-of .ensures) at (c .before .line-right .ensures) in
-    (omega arith, test-goes-on (s .args .test) (network (s .args .net .now)) (s .args .modfile .now) _ _ (s .pre .0 .sized) _ (loop .k) (c .before .before .before .before .before .before .line-count .ensures .0) (loop .inv .1) _ here (not-false _ (c .if1 .left)))
+    let judged = c .before in
+    let line = judged .before .before in
+    let loop = line .before .before .loop in
+    let count = line .before .before .before in
+    let s = count .before .before .before in
+    let here = rw (line .processor-of .ensures, judged .before .slot-of .ensures) at (judged .line-right .ensures) in
+    let low : loop .k + 1 ≤ count .line-count .result = omega arith in
+    let tested = test-goes-on (s .args .test) (network (s .args .net .now)) (s .args .modfile .now) _ _ (s .pre .laid .sized) _ (loop .k) in
+    (low, tested (count .line-count .ensures .0) (loop .inv .1) _ here (not-false _ (c .if1 .left)))
 
 returns-2 : tie.Need-returns-2 Inv-loop μ-loop
 returns-2 c =
-    let s = c .before .before .before .before .before in
     let loop = c .before .loop in
-    test-passes (s .args .test) (network (s .args .net .now)) (s .args .modfile .now) _ _ (s .pre .0 .sized) _ (loop .k) (c .before .before .line-count .ensures .0) (loop .inv .1) (loop .inv .0) (c .loop-test .left)
+    let count = c .before .before in
+    let s = count .before .before .before in
+    let tested = test-passes (s .args .test) (network (s .args .net .now)) (s .args .modfile .now) _ _ (s .pre .laid .sized) _ (loop .k) in
+    tested (count .line-count .ensures .0) (loop .inv .1) (loop .inv .0) (c .loop-test .left)
 
 pub check-each-spec : {M : Type 1} → statement M
 check-each-spec =

@@ -4,8 +4,8 @@ use native.Mathlib.Omega.{arith}
 use Rattle.model.specs.Netlist.{network}
 use Rattle.file_mod_lines.proofs.Told.{not-accepted}
 use Rattle.file_mod_lines.proofs.Stages.{refused, passed, sizes-of, after, resized}
-use Rattle.file_mod.proofs.Sources.{net-field}
-use Rattle.file_mod.proofs.Formed.{signals-few, form-laid, form-within, net-signals, checked}
+use Rattle.file_mod_sources.proofs.Operands.{net-field}
+use Rattle.file_mod.proofs.Formed.{formed, net-signals, checked}
 use borrow.Author.Needs.{needs}
 use Rattle.file_mod.proofs.check_mod.Statement.{statement}
 use Rattle.file_mod.proofs.check_mod.Tie as tie
@@ -13,7 +13,7 @@ use Rattle.file_mod.proofs.check_mod.Tie as tie
 number-at-requires : tie.Need-number-at-requires
 number-at-requires c κs =
     let s = c .before .before in
-    net-field (s .args .net .now) 0 0 refl (s .pre) (omega arith) 1 6 (omega arith) refl
+    net-field (s .args .net .now) 0 (s .pre) (omega arith) 1 6 (omega arith) refl
 
 returns : tie.Need-returns
 returns c =
@@ -26,30 +26,23 @@ returns c =
 check-module-requires : tie.Need-check-module-requires
 check-module-requires c κs =
     let form = c .before .form in
-    let check-form = c .before .before .before .check-form in
     let number-at = c .before .before .before .before .number-at in
     let s = c .before .before .before .before .before .before .before in
     let net = s .args .net .now in
-    let modfile = s .args .modfile .now in
-    let answer = check-form .ensures (network net) (net-signals net _ (number-at .ensures)) in
-    let formed = passed _ _ _ _ _ _ answer (form .given .1) in
+    let answer = c .before .before .before .check-form .ensures (network net) (net-signals net _ (number-at .ensures)) in
     let sizes = sizes-of _ _ _ _ _ _ answer (form .given .1) in
-    let laid = form-laid net modfile _ _ (s .pre) formed (sizes .0) (sizes .1) in
-    let within = form-within net modfile _ _ (s .pre) formed (sizes .0) (sizes .1) in
-    let few = signals-few net modfile _ _ (s .pre) formed (sizes .0) (sizes .1) in
-    (laid, (s .pre, (within, (number-at .ensures, omega (arith, number-at .ensures, few)))))
+    (formed _ _ _ _ (s .pre) (passed _ _ _ _ _ _ answer (form .given .1)) (sizes .0) (sizes .1), number-at .ensures)
 
 returns-2 : tie.Need-returns-2
 returns-2 c =
     let form = c .before .before .form in
-    let check-form = c .before .before .before .before .check-form in
     let number-at = c .before .before .before .before .before .number-at in
     let s = c .before .before .before .before .before .before .before .before in
     let net = s .args .net .now in
-    let answer = check-form .ensures (network net) (net-signals net _ (number-at .ensures)) in
-    let formed = passed _ _ _ _ _ _ answer (form .given .1) in
+    let answer = c .before .before .before .before .check-form .ensures (network net) (net-signals net _ (number-at .ensures)) in
     let sizes = sizes-of _ _ _ _ _ _ answer (form .given .1) in
-    checked _ _ _ _ _ (after _ _ _ _ _ formed (resized _ _ _ _ _ _ (sizes .0) (sizes .1) (c .check-module .ensures)))
+    let right = passed _ _ _ _ _ _ answer (form .given .1) in
+    checked _ _ _ _ _ (after _ _ _ _ _ right (resized _ _ _ _ _ _ (sizes .0) (sizes .1) (c .check-module .ensures)))
 
 pub check-mod-spec : {M : Type 1} → statement M
 check-mod-spec =

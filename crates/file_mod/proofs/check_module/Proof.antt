@@ -2,43 +2,65 @@
 use Rattle.model.specs.Netlist.{network}
 use Rattle.file_mod_lines.proofs.Told.{not-accepted}
 use Rattle.file_mod_lines.proofs.Stages.{refused, passed, after}
-use Rattle.file_mod.proofs.Formed.{net-signals}
+use Rattle.file_mod.proofs.Formed.{signals-few, net-signals}
 use borrow.Author.Needs.{needs}
 use Rattle.file_mod.proofs.check_module.Statement.{statement}
 use Rattle.file_mod.proofs.check_module.Tie as tie
 
+check-placements-requires : tie.Need-check-placements-requires
+check-placements-requires c κs =
+    let s = c .before .before in
+    (s .pre .0 .laid, signals-few _ _ (s .pre .0 .accepted) (s .pre .1))
+
 returns : tie.Need-returns
 returns c =
-    let s = c .before .before .before .before in
-    let placed-answer = c .before .check-placements .ensures (network (s .args .net .now)) (net-signals (s .args .net .now) _ (s .pre .1 .1 .1 .0)) in
-    refused _ _ _ _ _ _ _ placed-answer (not-accepted _ (c .match .keys2))
+    let placements = c .before in
+    let s = placements .before .before .before in
+    let net = s .args .net .now in
+    let answer = placements .check-placements .ensures (network net) (net-signals net _ (s .pre .1)) in
+    refused _ _ _ _ _ _ _ answer (not-accepted _ (c .match .keys2))
 
 returns-2 : tie.Need-returns-2
 returns-2 c =
-    let s = c .before .before .before .before .before .before .before in
-    let placed-answer = c .before .before .before .before .check-placements .ensures (network (s .args .net .now)) (net-signals (s .args .net .now) _ (s .pre .1 .1 .1 .0)) in
-    after _ _ _ _ _ (passed _ _ _ _ _ _ placed-answer (c .before .before .enum-told .given .1)) (refused _ _ _ _ _ _ _ (c .before .check-each .ensures) (not-accepted _ (c .match2 .keys2)))
+    let sends = c .before in
+    let placements = sends .before .before .before in
+    let s = placements .before .before .before in
+    let net = s .args .net .now in
+    let answer = placements .check-placements .ensures (network net) (net-signals net _ (s .pre .1)) in
+    let right-placements = passed _ _ _ _ _ _ answer (sends .before .enum-told .given .1) in
+    after _ _ _ _ _ right-placements (refused _ _ _ _ _ _ _ (sends .check-each .ensures) (not-accepted _ (c .match2 .keys2)))
 
 returns-3 : tie.Need-returns-3
 returns-3 c =
-    let s = c .before .before .before .before .before .before .before .before .before .before in
-    let placed-answer = c .before .before .before .before .before .before .before .check-placements .ensures (network (s .args .net .now)) (net-signals (s .args .net .now) _ (s .pre .1 .1 .1 .0)) in
-    let sends-pass = passed _ _ _ _ _ _ (c .before .before .before .before .check-each .ensures) (c .before .before .enum-told2 .given .1) in
-    after _ _ _ _ _ (passed _ _ _ _ _ _ placed-answer (c .before .before .before .before .before .enum-told .given .1)) (after _ _ _ _ _ sends-pass (refused _ _ _ _ _ _ _ (c .before .check-each2 .ensures) (not-accepted _ (c .match3 .keys2))))
+    let receptions = c .before in
+    let sends = receptions .before .before .before in
+    let placements = sends .before .before .before in
+    let s = placements .before .before .before in
+    let net = s .args .net .now in
+    let answer = placements .check-placements .ensures (network net) (net-signals net _ (s .pre .1)) in
+    let right-placements = passed _ _ _ _ _ _ answer (sends .before .enum-told .given .1) in
+    let right-sends = passed _ _ _ _ _ _ (sends .check-each .ensures) (receptions .before .enum-told2 .given .1) in
+    after _ _ _ _ _ right-placements
+    (after _ _ _ _ _ right-sends (refused _ _ _ _ _ _ _ (receptions .check-each2 .ensures) (not-accepted _ (c .match3 .keys2))))
 
 returns-4 : tie.Need-returns-4
 returns-4 c =
-    let s = c .before .before .before .before .before .before .before .before .before .before .before .before in
-    let placed-answer = c .before .before .before .before .before .before .before .before .before .check-placements .ensures (network (s .args .net .now)) (net-signals (s .args .net .now) _ (s .pre .1 .1 .1 .0)) in
-    let sends-pass = passed _ _ _ _ _ _ (c .before .before .before .before .before .before .check-each .ensures) (c .before .before .before .before .enum-told2 .given .1) in
-    let receptions-pass = passed _ _ _ _ _ _ (c .before .before .before .check-each2 .ensures) (c .before .enum-told3 .given .1) in
-    after _ _ _ _ _ (passed _ _ _ _ _ _ placed-answer (c .before .before .before .before .before .before .before .enum-told .given .1)) (after _ _ _ _ _ sends-pass (after _ _ _ _ _ receptions-pass (c .check-each3 .ensures)))
+    let receptions = c .before .before .before in
+    let sends = receptions .before .before .before in
+    let placements = sends .before .before .before in
+    let s = placements .before .before .before in
+    let net = s .args .net .now in
+    let answer = placements .check-placements .ensures (network net) (net-signals net _ (s .pre .1)) in
+    let right-placements = passed _ _ _ _ _ _ answer (sends .before .enum-told .given .1) in
+    let right-sends = passed _ _ _ _ _ _ (sends .check-each .ensures) (receptions .before .enum-told2 .given .1) in
+    let right-receptions = passed _ _ _ _ _ _ (receptions .check-each2 .ensures) (c .before .enum-told3 .given .1) in
+    after _ _ _ _ _ right-placements (after _ _ _ _ _ right-sends (after _ _ _ _ _ right-receptions (c .check-each3 .ensures)))
 
 pub check-module-spec : {M : Type 1} → statement M
 check-module-spec =
     tie.close
     (tie.spec
-    (λ c κs. search needs)
+    check-placements-requires
     (λ c. search needs)
     returns
     (λ c κs. search needs)

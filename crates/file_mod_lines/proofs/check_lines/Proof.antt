@@ -28,154 +28,75 @@ Inv-lines modfile signals processors slots lines answer₀ k₀ answer k =
 abbrev μ-lines : tie.MeasureT-lines
 μ-lines modfile signals processors slots lines answer₀ k₀ answer k = lines - k
 
-line-count-requires : tie.Need-line-count-requires Inv-loop μ-loop Inv-lines μ-lines
-line-count-requires c κs = search needs
-
 lines-holds : tie.Need-lines-holds Inv-loop μ-loop Inv-lines μ-lines
 unfolding all firstBelow
 lines-holds c = search needs
-
-add-at : tie.Need-add-at Inv-loop μ-loop Inv-lines μ-lines
-add-at c = search needs
-
-mul-at : tie.Need-mul-at Inv-loop μ-loop Inv-lines μ-lines
-mul-at c = search needs
 
 loop-holds : tie.Need-loop-holds Inv-loop μ-loop Inv-lines μ-lines
 unfolding all firstBelow
 loop-holds c = search needs
 
-mul-read-field : tie.Need-mul-read-field Inv-loop μ-loop Inv-lines μ-lines
-mul-read-field c = search needs
-
-add-read-field : tie.Need-add-read-field Inv-loop μ-loop Inv-lines μ-lines
-add-read-field c = search needs
-
-read-field-requires : tie.Need-read-field-requires Inv-loop μ-loop Inv-lines μ-lines
-read-field-requires c κs = search needs
-
-enum-told : tie.Need-enum-told Inv-loop μ-loop Inv-lines μ-lines
-enum-told c = search needs
-
-enum-told-2 : tie.Need-enum-told-2 Inv-loop μ-loop Inv-lines μ-lines
-enum-told-2 c = search needs
-
-add-t18 : tie.Need-add-t18 Inv-loop μ-loop Inv-lines μ-lines
-add-t18 c = search needs
-
-cast-t19 : tie.Need-cast-t19 Inv-loop μ-loop Inv-lines μ-lines
-cast-t19 c = search needs
-
-add-column : tie.Need-add-column Inv-loop μ-loop Inv-lines μ-lines
-add-column c = search needs
-
-loop-less : tie.Need-loop-less Inv-loop μ-loop Inv-lines μ-lines
-loop-less c = search needs
-
 loop-again : tie.Need-loop-again Inv-loop μ-loop Inv-lines μ-lines
 loop-again c =
-    let loop = c .before .before .before .before .loop in
-    let read-field = c .before .before .read-field in
-    let enum-told = c .enum-told in
-    (loop .inv .0, omega arith, field-goes-on _ _ _ (loop .inv .2) (sym (read-field .ensures) ∙ enum-told .given .1))
-
-add-ends-line : tie.Need-add-ends-line Inv-loop μ-loop Inv-lines μ-lines
-add-ends-line c = search needs
-
-ends-line-requires : tie.Need-ends-line-requires Inv-loop μ-loop Inv-lines μ-lines
-ends-line-requires c κs = search needs
-
-add-t21 : tie.Need-add-t21 Inv-loop μ-loop Inv-lines μ-lines
-add-t21 c = search needs
-
-cast-t22 : tie.Need-cast-t22 Inv-loop μ-loop Inv-lines μ-lines
-cast-t22 c = search needs
-
-processor-of-requires : tie.Need-processor-of-requires Inv-loop μ-loop Inv-lines μ-lines
-processor-of-requires c κs = search needs
-
-slot-of-requires : tie.Need-slot-of-requires Inv-loop μ-loop Inv-lines μ-lines
-slot-of-requires c κs = search needs
+    let fields = c .before .before .before .before .loop .inv in
+    let number = sym (c .before .before .read-field .ensures) ∙ c .enum-told .given .1 in
+    (fields .0, omega arith, field-goes-on _ _ _ (fields .2) number)
 
 line-laid-requires : tie.Need-line-laid-requires Inv-loop μ-loop Inv-lines μ-lines
 line-laid-requires c κs =
-    let loop = c .before .before .before .before .before .loop in
-    let loop-test = c .before .before .before .before .loop-test in
-    let ends-line = c .before .before .before .ends-line in
-    let if1 = c .before .before .if1 in
-    let right = line-whole _ _ _ (loop .inv .1) (loop-test .left) (loop .inv .2) _ (ends-line .ensures) (not-false _ (if1 .left)) in
-    right
-
-add-t23 : tie.Need-add-t23 Inv-loop μ-loop Inv-lines μ-lines
-add-t23 c = search needs
-
-cast-t24 : tie.Need-cast-t24 Inv-loop μ-loop Inv-lines μ-lines
-cast-t24 c = search needs
-
-add-k : tie.Need-add-k Inv-loop μ-loop Inv-lines μ-lines
-add-k c = search needs
-
-lines-less : tie.Need-lines-less Inv-loop μ-loop Inv-lines μ-lines
-lines-less c = search needs
+    let ended = c .before .before .before in
+    let fields = ended .before .before .loop .inv in
+    line-whole _ _ _ (fields .1) (ended .before .loop-test .left) (fields .2) _ (ended .ends-line .ensures) (not-false _ (c .before .before .if1 .left))
 
 lines-again : tie.Need-lines-again Inv-loop μ-loop Inv-lines μ-lines
 lines-again c =
-    let s = c .before .before .before .before .before .before .before .before .before .before .before .before in
-    let lines = c .before .before .before .before .before .before .before .before .before .lines in
-    let loop = c .before .before .before .before .before .before .before .loop in
-    let loop-test = c .before .before .before .before .before .before .loop-test in
-    let ends-line = c .before .before .before .before .before .ends-line in
-    let if1 = c .before .before .before .before .if1 in
-    let line-laid = c .before .line-laid in
-    let if2 = c .if2 in
-    let right = line-whole _ _ _ (loop .inv .1) (loop-test .left) (loop .inv .2) _ (ends-line .ensures) (not-false _ (if1 .left)) in
-    (loop .inv .0 ∙ lines .inv .0, omega arith, λ n e. below-goes-on _ _ (lines .inv .2 n e) (slot-right (s .args .modfile .now) (lines .k) (85 * (lines .k + 1)) refl n right (line-laid .result) (cc) (not-false _ (if2 .left))))
+    let judged = c .before in
+    let ended = judged .before .before .before .before in
+    let fields = ended .before .before .loop .inv in
+    let lines = ended .before .before .before .before .lines in
+    let s = ended .before .before .before .before .before .before .before in
+    let right = line-whole _ _ _ (fields .1) (ended .before .loop-test .left) (fields .2) _ (ended .ends-line .ensures) (not-false _ (judged .before .before .before .if1 .left)) in
+    let passes = slot-right (s .args .modfile .now) (lines .k) (85 * (lines .k + 1)) refl in
+    (fields .0 ∙ lines .inv .0, omega arith, λ n e. below-goes-on _ _ (lines .inv .2 n e) (passes n right (judged .line-laid .result) (cc) (not-false _ (c .if2 .left))))
 
 returns : tie.Need-returns Inv-loop μ-loop Inv-lines μ-lines
 returns c =
+    let lines = c .before .lines .inv in
     let s = c .before .before .before .before in
-    let line-count = c .before .before .line-count in
-    let lines = c .before .lines in
-    let lines-test = c .lines-test in
-    λ n e. record { refusal = ap modRefusal (lines .inv .0) ∙ sym (lines-pass _ _ _ (s .pre) _ _ _ (line-count .ensures .0) (lines .inv .2) n e (lines .inv .1) (lines-test .left)); sizes = rw (lines .inv .0) (refl, refl) }
+    let pass = lines-pass _ _ _ (s .pre) _ _ _ (c .before .before .line-count .ensures .0) (lines .2) in
+    λ n e. record { refusal = ap modRefusal (lines .0) ∙ sym (pass n e (lines .1) (c .lines-test .left)); sizes = rw (lines .0) (refl, refl) }
 
 returns-2 : tie.Need-returns-2 Inv-loop μ-loop Inv-lines μ-lines
 returns-2 c =
-    let s = c .before .before .before .before .before .before .before .before .before in
-    let line-count = c .before .before .before .before .before .before .before .line-count in
-    let lines = c .before .before .before .before .before .before .lines in
-    let lines-test = c .before .before .before .before .before .lines-test in
-    let loop-test = c .before .before .before .loop-test in
-    let read-field = c .before .before .read-field in
-    let enum-told2 = c .enum-told2 in
-    λ n e. record { refusal = sym (lines-stop _ _ _ (s .pre) _ _ _ (line-count .ensures .0) (lines .inv .2) n e (lines-test .taken) (slot-misformed _ _ _ refl n (field-stops _ _ _ (loop-test .taken) (sym (read-field .ensures) ∙ enum-told2 .given .1)))); sizes = tt }
+    let field = c .before .before in
+    let line = field .before .before .before in
+    let s = line .before .before .before .before in
+    let stop = lines-stop _ _ _ (s .pre) _ _ _ (line .before .before .line-count .ensures .0) (line .before .lines .inv .2) in
+    let broken = field-stops _ _ _ (field .before .loop-test .taken) (sym (field .read-field .ensures) ∙ c .enum-told2 .given .1) in
+    λ n e. record { refusal = sym (stop n e (line .lines-test .taken) _ _ (slot-misformed _ _ _ refl n broken)); sizes = tt }
 
 returns-3 : tie.Need-returns-3 Inv-loop μ-loop Inv-lines μ-lines
 returns-3 c =
-    let s = c .before .before .before .before .before .before .before .before in
-    let line-count = c .before .before .before .before .before .before .line-count in
-    let lines = c .before .before .before .before .before .lines in
-    let lines-test = c .before .before .before .before .lines-test in
-    let loop = c .before .before .before .loop in
-    let loop-test = c .before .before .loop-test in
-    let ends-line = c .before .ends-line in
-    let if1 = c .if1 in
-    λ n e. record { refusal = sym (lines-stop _ _ _ (s .pre) _ _ _ (line-count .ensures .0) (lines .inv .2) n e (lines-test .taken) (slot-misformed _ _ _ refl n (line-unended _ _ _ (loop .inv .1) (loop-test .left) (loop .inv .2) _ (ends-line .ensures) (not-true _ (if1 .taken))))); sizes = tt }
+    let ended = c .before in
+    let fields = ended .before .before .loop .inv in
+    let line = ended .before .before .before in
+    let s = line .before .before .before .before in
+    let stop = lines-stop _ _ _ (s .pre) _ _ _ (line .before .before .line-count .ensures .0) (line .before .lines .inv .2) in
+    let broken = line-unended _ _ _ (fields .1) (ended .before .loop-test .left) (fields .2) _ (ended .ends-line .ensures) (not-true _ (c .if1 .taken)) in
+    λ n e. record { refusal = sym (stop n e (line .lines-test .taken) _ _ (slot-misformed _ _ _ refl n broken)); sizes = tt }
 
 returns-4 : tie.Need-returns-4 Inv-loop μ-loop Inv-lines μ-lines
 returns-4 c =
-    let s = c .before .before .before .before .before .before .before .before .before .before .before .before in
-    let line-count = c .before .before .before .before .before .before .before .before .before .before .line-count in
-    let lines = c .before .before .before .before .before .before .before .before .before .lines in
-    let lines-test = c .before .before .before .before .before .before .before .before .lines-test in
-    let loop = c .before .before .before .before .before .before .before .loop in
-    let loop-test = c .before .before .before .before .before .before .loop-test in
-    let ends-line = c .before .before .before .before .before .ends-line in
-    let if1 = c .before .before .before .before .if1 in
-    let line-laid = c .before .line-laid in
-    let if2 = c .if2 in
-    let right = line-whole _ _ _ (loop .inv .1) (loop-test .left) (loop .inv .2) _ (ends-line .ensures) (not-false _ (if1 .left)) in
-    λ n e. record { refusal = sym (lines-stop _ _ _ (s .pre) _ _ _ (line-count .ensures .0) (lines .inv .2) n e (lines-test .taken) (slot-wrong (s .args .modfile .now) (lines .k) (85 * (lines .k + 1)) refl n right (line-laid .result) (cc) (not-true _ (if2 .taken)))); sizes = tt }
+    let judged = c .before in
+    let ended = judged .before .before .before .before in
+    let fields = ended .before .before .loop .inv in
+    let line = ended .before .before .before in
+    let lines = line .before .lines in
+    let s = line .before .before .before .before in
+    let stop = lines-stop _ _ _ (s .pre) _ _ _ (line .before .before .line-count .ensures .0) (lines .inv .2) in
+    let right = line-whole _ _ _ (fields .1) (ended .before .loop-test .left) (fields .2) _ (ended .ends-line .ensures) (not-false _ (judged .before .before .before .if1 .left)) in
+    let wrong = slot-wrong (s .args .modfile .now) (lines .k) (85 * (lines .k + 1)) refl in
+    λ n e. record { refusal = sym (stop n e (line .lines-test .taken) _ _ (wrong n right (judged .line-laid .result) (cc) (not-true _ (c .if2 .taken)))); sizes = tt }
 
 pub check-lines-spec : {M : Type 1} → statement M
 check-lines-spec =
@@ -185,32 +106,32 @@ check-lines-spec =
     μ-loop
     Inv-lines
     μ-lines
-    line-count-requires
+    (λ c κs. search needs)
     lines-holds
-    add-at
-    mul-at
+    (λ c. search needs)
+    (λ c. search needs)
     loop-holds
-    mul-read-field
-    add-read-field
-    read-field-requires
-    enum-told
-    enum-told-2
-    add-t18
-    cast-t19
-    add-column
-    loop-less
+    (λ c. search needs)
+    (λ c. search needs)
+    (λ c κs. search needs)
+    (λ c. search needs)
+    (λ c. search needs)
+    (λ c. search needs)
+    (λ c. search needs)
+    (λ c. search needs)
+    (λ c. search needs)
     loop-again
-    add-ends-line
-    ends-line-requires
-    add-t21
-    cast-t22
-    processor-of-requires
-    slot-of-requires
+    (λ c. search needs)
+    (λ c κs. search needs)
+    (λ c. search needs)
+    (λ c. search needs)
+    (λ c κs. search needs)
+    (λ c κs. search needs)
     line-laid-requires
-    add-t23
-    cast-t24
-    add-k
-    lines-less
+    (λ c. search needs)
+    (λ c. search needs)
+    (λ c. search needs)
+    (λ c. search needs)
     lines-again
     returns
     returns-2

@@ -1,12 +1,13 @@
 -- `lineAt` in its order: the first number or pair that is wrong decides, by `equal-stops`, `most-stops` or `chain-stops`.
+-- The first three are numbers (`numbers-right`).
 use Prim.Native.Nat.{_+_}
 use mathlib.Core.Path.{sym, _∙_}
 use native.Mathlib.Omega.{arith}
 use Rattle.model.proofs.RightLine.{line-within}
 use Rattle.file_mod_lines.specs.Layout.{lineAt}
 use Rattle.file_mod_lines.proofs.Header.{field-of-line}
-use Rattle.logic.proofs.Judged.{chain-stops, chain-goes-on, equal-stops, equal-goes-on, most-stops, most-goes-on}
-use Rattle.file_mod_lines.proofs.Judged.{pair-of-line}
+use Rattle.logic.proofs.Judged.{chain-stops, chain-goes-on, equal-stops, equal-goes-on, most-stops}
+use Rattle.file_mod_lines.proofs.Judged.{pair-of-line, numbers-right}
 use borrow.Author.Needs.{needs}
 use Rattle.file_mod_lines.proofs.line_laid.Statement.{statement}
 use Rattle.file_mod_lines.proofs.line_laid.Tie as tie
@@ -18,10 +19,7 @@ number-at-requires c κs =
 
 returns : tie.Need-returns
 unfolding lineAt
-returns c =
-    let number-at = c .before .number-at in
-    let if1 = c .if1 in
-    sym (equal-stops _ _ _ _ (number-at .ensures) (if1 .taken))
+returns c = sym (equal-stops _ _ _ _ (c .before .number-at .ensures) (c .if1 .taken))
 
 add-number-at : tie.Need-add-number-at
 add-number-at c =
@@ -36,11 +34,11 @@ number-at-requires-2 c κs =
 returns-2 : tie.Need-returns-2
 unfolding lineAt
 returns-2 c =
-    let number-at = c .before .before .before .number-at in
-    let if1 = c .before .before .if1 in
-    let number-at2 = c .before .number-at2 in
-    let if2 = c .if2 in
-    sym (equal-goes-on _ _ _ _ (number-at .ensures) (if1 .left) ∙ equal-stops _ _ _ _ (number-at2 .ensures) (if2 .taken))
+    let slot = c .before in
+    let processor = slot .before .before in
+    sym
+    (equal-goes-on _ _ _ _ (processor .number-at .ensures) (slot .before .if1 .left)
+    ∙ equal-stops _ _ _ _ (slot .number-at2 .ensures) (c .if2 .taken))
 
 add-number-at-2 : tie.Need-add-number-at-2
 add-number-at-2 c =
@@ -55,81 +53,78 @@ number-at-requires-3 c κs =
 returns-3 : tie.Need-returns-3
 unfolding lineAt
 returns-3 c =
-    let number-at = c .before .before .before .before .before .number-at in
-    let if1 = c .before .before .before .before .if1 in
-    let number-at2 = c .before .before .before .number-at2 in
-    let if2 = c .before .before .if2 in
-    let number-at3 = c .before .number-at3 in
-    let if3 = c .if3 in
-    sym (equal-goes-on _ _ _ _ (number-at .ensures) (if1 .left) ∙ equal-goes-on _ _ _ _ (number-at2 .ensures) (if2 .left) ∙ most-stops _ _ _ _ (number-at3 .ensures) (if3 .taken))
+    let signal = c .before in
+    let slot = signal .before .before in
+    let processor = slot .before .before in
+    sym
+    (equal-goes-on _ _ _ _ (processor .number-at .ensures) (slot .before .if1 .left)
+    ∙ equal-goes-on _ _ _ _ (slot .number-at2 .ensures) (signal .before .if2 .left)
+    ∙ most-stops _ _ _ _ (signal .number-at3 .ensures) (c .if3 .taken))
 
 operands-laid-requires : tie.Need-operands-laid-requires
-operands-laid-requires c κs =
-    let s = c .before .before .before .before .before .before .before in
-    s .pre
+operands-laid-requires c κs = c .before .before .before .before .before .before .before .pre
 
 returns-4 : tie.Need-returns-4
 unfolding lineAt
 returns-4 c =
-    let number-at = c .before .before .before .before .before .before .before .number-at in
-    let if1 = c .before .before .before .before .before .before .if1 in
-    let number-at2 = c .before .before .before .before .before .number-at2 in
-    let if2 = c .before .before .before .before .if2 in
-    let number-at3 = c .before .before .before .number-at3 in
-    let operands-laid = c .before .operands-laid in
-    let if3 = c .before .before .if3 in
-    let if4 = c .if4 in
-    sym (equal-goes-on _ _ _ _ (number-at .ensures) (if1 .left) ∙ equal-goes-on _ _ _ _ (number-at2 .ensures) (if2 .left) ∙ most-goes-on _ _ _ _ (number-at3 .ensures) (if3 .left) ∙ chain-stops _ _ _ (operands-laid .ensures) (if4 .taken))
+    let operands = c .before in
+    let signal = operands .before .before in
+    let slot = signal .before .before in
+    let processor = slot .before .before in
+    let numbers = numbers-right _ _ _ _ _ _ _ _ _ _ (processor .number-at .ensures) (slot .before .if1 .left) (slot .number-at2 .ensures) (signal .before .if2 .left) (signal .number-at3 .ensures) (operands .before .if3 .left) in
+    sym (numbers ∙ chain-stops _ _ _ (operands .operands-laid .ensures) (c .if4 .taken))
 
 add-pair-laid : tie.Need-add-pair-laid
 add-pair-laid c =
-    let s = c .before .before .before .before .before .before .before .before .before in
+    let signal = c .before .before .before in
+    let s = signal .before .before .before .before .before .before in
     omega (arith, line-within (s .args .modfile .now) (s .args .at) 14 (s .pre))
 
 pair-laid-requires : tie.Need-pair-laid-requires
 pair-laid-requires c κs =
-    let s = c .before .before .before .before .before .before .before .before .before in
+    let signal = c .before .before .before in
+    let s = signal .before .before .before .before .before .before in
     pair-of-line _ (s .args .at) (s .pre) 11 (s .args .at + 66) (omega arith) (omega arith)
 
 returns-5 : tie.Need-returns-5
 unfolding lineAt
 returns-5 c =
-    let number-at = c .before .before .before .before .before .before .before .before .before .number-at in
-    let if1 = c .before .before .before .before .before .before .before .before .if1 in
-    let number-at2 = c .before .before .before .before .before .before .before .number-at2 in
-    let if2 = c .before .before .before .before .before .before .if2 in
-    let number-at3 = c .before .before .before .before .before .number-at3 in
-    let operands-laid = c .before .before .before .operands-laid in
-    let if3 = c .before .before .before .before .if3 in
-    let if4 = c .before .before .if4 in
-    let pair-laid = c .before .pair-laid in
-    let if5 = c .if5 in
-    sym (equal-goes-on _ _ _ _ (number-at .ensures) (if1 .left) ∙ equal-goes-on _ _ _ _ (number-at2 .ensures) (if2 .left) ∙ most-goes-on _ _ _ _ (number-at3 .ensures) (if3 .left) ∙ chain-goes-on _ _ _ (operands-laid .ensures) (if4 .left) ∙ chain-stops _ _ _ (pair-laid .ensures) (if5 .taken))
+    let operands = c .before .before .before in
+    let signal = operands .before .before in
+    let slot = signal .before .before in
+    let processor = slot .before .before in
+    let numbers = numbers-right _ _ _ _ _ _ _ _ _ _ (processor .number-at .ensures) (slot .before .if1 .left) (slot .number-at2 .ensures) (signal .before .if2 .left) (signal .number-at3 .ensures) (operands .before .if3 .left) in
+    sym
+    (numbers
+    ∙ chain-goes-on _ _ _ (operands .operands-laid .ensures) (c .before .before .if4 .left)
+    ∙ chain-stops _ _ _ (c .before .pair-laid .ensures) (c .if5 .taken))
 
 add-number-at-3 : tie.Need-add-number-at-3
 add-number-at-3 c =
-    let s = c .before .before .before .before .before .before .before .before .before .before .before in
+    let signal = c .before .before .before .before .before in
+    let s = signal .before .before .before .before .before .before in
     omega (arith, line-within (s .args .modfile .now) (s .args .at) 14 (s .pre))
 
 number-at-requires-4 : tie.Need-number-at-requires-4
 number-at-requires-4 c κs =
-    let s = c .before .before .before .before .before .before .before .before .before .before .before in
+    let signal = c .before .before .before .before .before in
+    let s = signal .before .before .before .before .before .before in
     field-of-line _ (s .args .at) 14 (s .pre) 13 (s .args .at + 78) (omega arith) (omega arith)
 
 returns-6 : tie.Need-returns-6
 unfolding lineAt
 returns-6 c =
-    let number-at = c .before .before .before .before .before .before .before .before .before .before .before .number-at in
-    let if1 = c .before .before .before .before .before .before .before .before .before .before .if1 in
-    let number-at2 = c .before .before .before .before .before .before .before .before .before .number-at2 in
-    let if2 = c .before .before .before .before .before .before .before .before .if2 in
-    let number-at3 = c .before .before .before .before .before .before .before .number-at3 in
-    let operands-laid = c .before .before .before .before .before .operands-laid in
-    let if3 = c .before .before .before .before .before .before .if3 in
-    let if4 = c .before .before .before .before .if4 in
-    let pair-laid = c .before .before .before .pair-laid in
-    let if5 = c .before .before .if5 in
-    sym (equal-goes-on _ _ _ _ (number-at .ensures) (if1 .left) ∙ equal-goes-on _ _ _ _ (number-at2 .ensures) (if2 .left) ∙ most-goes-on _ _ _ _ (number-at3 .ensures) (if3 .left) ∙ chain-goes-on _ _ _ (operands-laid .ensures) (if4 .left) ∙ chain-goes-on _ _ _ (pair-laid .ensures) (if5 .left) ∙ (cc))
+    let send = c .before .before .before in
+    let operands = send .before .before in
+    let signal = operands .before .before in
+    let slot = signal .before .before in
+    let processor = slot .before .before in
+    let numbers = numbers-right _ _ _ _ _ _ _ _ _ _ (processor .number-at .ensures) (slot .before .if1 .left) (slot .number-at2 .ensures) (signal .before .if2 .left) (signal .number-at3 .ensures) (operands .before .if3 .left) in
+    sym
+    (numbers
+    ∙ chain-goes-on _ _ _ (operands .operands-laid .ensures) (send .before .if4 .left)
+    ∙ chain-goes-on _ _ _ (send .pair-laid .ensures) (c .before .before .if5 .left)
+    ∙ (cc))
 
 pub line-laid-spec : {M : Type 1} → statement M
 line-laid-spec =

@@ -1,106 +1,73 @@
--- The four pairs one after the other: the first that is wrong decides, by `chain-stops`; else the fourth does.
-use Prim.Native.Nat.{_+_}
-use mathlib.Core.Path.{sym, _∙_}
+-- The invariant: the pairs of the operands before operand j are right.
+use Prim.Native.Nat.{_+_, _*_, _-_, _≤_}
+use mathlib.Core.Path.{_≡_, sym}
+use mathlib.Core.Bool.{true}
 use native.Mathlib.Omega.{arith}
+use Rattle.logic.specs.Test.{all}
+use Rattle.logic.proofs.Tests.{all-more, all-fails}
+use Rattle.logic.proofs.Judged.{fails, passes}
+use Rattle.model.specs.Module.{switchPresent}
 use Rattle.model.proofs.RightLine.{line-within}
-use Rattle.file_mod_lines.specs.Layout.{operandsAt}
-use Rattle.logic.proofs.Judged.{chain-stops, chain-goes-on}
+use Rattle.file_mod_lines.specs.Layout.{pairAt, operandsAt}
 use Rattle.file_mod_lines.proofs.Judged.{pair-of-line}
+use borrow.Author.Needs.{needs}
 use Rattle.file_mod_lines.proofs.operands_laid.Statement.{statement}
 use Rattle.file_mod_lines.proofs.operands_laid.Tie as tie
 
-add-pair-laid : tie.Need-add-pair-laid
+abbrev Inv-loop : tie.InvT-loop
+Inv-loop modfile at slots j₀ j = (j ≤ 4) × (all j (λ k. pairAt modfile (at + 18 + 12 * k) switchPresent slots) ≡ true)
+
+abbrev μ-loop : tie.MeasureT-loop
+μ-loop modfile at slots j₀ j = 4 - j
+
+loop-holds : tie.Need-loop-holds Inv-loop μ-loop
+unfolding all
+loop-holds c = search needs
+
+add-pair-laid : tie.Need-add-pair-laid Inv-loop μ-loop
 add-pair-laid c =
-    let s = c .before in
+    let s = c .before .before .before in
     omega (arith, line-within (s .args .modfile .now) (s .args .at) 14 (s .pre))
 
-pair-laid-requires : tie.Need-pair-laid-requires
-pair-laid-requires c κs =
-    let s = c .before in
-    pair-of-line _ (s .args .at) (s .pre) 3 (s .args .at + 18) (omega arith) (omega arith)
-
-returns : tie.Need-returns
-unfolding operandsAt
-returns c =
-    let pair-laid = c .before .pair-laid in
-    let if1 = c .if1 in
-    sym (chain-stops _ _ _ (pair-laid .ensures) (if1 .taken))
-
-add-pair-laid-2 : tie.Need-add-pair-laid-2
+add-pair-laid-2 : tie.Need-add-pair-laid-2 Inv-loop μ-loop
 add-pair-laid-2 c =
     let s = c .before .before .before in
     omega (arith, line-within (s .args .modfile .now) (s .args .at) 14 (s .pre))
 
-pair-laid-requires-2 : tie.Need-pair-laid-requires-2
-pair-laid-requires-2 c κs =
+pair-laid-requires : tie.Need-pair-laid-requires Inv-loop μ-loop
+pair-laid-requires c κs =
     let s = c .before .before .before in
-    pair-of-line _ (s .args .at) (s .pre) 5 (s .args .at + 30) (omega arith) (omega arith)
+    let j = c .before .loop .j in
+    pair-of-line _ (s .args .at) (s .pre) (3 + 2 * j) (s .args .at + 18 + 12 * j) (omega arith) (omega arith)
 
-returns-2 : tie.Need-returns-2
+returns : tie.Need-returns Inv-loop μ-loop
 unfolding operandsAt
-returns-2 c =
-    let pair-laid = c .before .before .before .pair-laid in
-    let if1 = c .before .before .if1 in
-    let pair-laid2 = c .before .pair-laid2 in
-    let if2 = c .if2 in
-    sym (chain-goes-on _ _ _ (pair-laid .ensures) (if1 .left) ∙ chain-stops _ _ _ (pair-laid2 .ensures) (if2 .taken))
+returns c =
+    let low = c .before .before .loop-test .taken in
+    sym (all-fails _ 4 _ low (fails _ _ (c .before .pair-laid .ensures) (c .if1 .taken)))
 
-add-pair-laid-3 : tie.Need-add-pair-laid-3
-add-pair-laid-3 c =
-    let s = c .before .before .before .before .before in
-    omega (arith, line-within (s .args .modfile .now) (s .args .at) 14 (s .pre))
+loop-again : tie.Need-loop-again Inv-loop μ-loop
+loop-again c =
+    let right = c .before .before .before .loop .inv .1 in
+    (omega arith, all-more _ _ right (passes _ _ (c .before .pair-laid .ensures) (c .if1 .left)))
 
-pair-laid-requires-3 : tie.Need-pair-laid-requires-3
-pair-laid-requires-3 c κs =
-    let s = c .before .before .before .before .before in
-    pair-of-line _ (s .args .at) (s .pre) 7 (s .args .at + 42) (omega arith) (omega arith)
-
-returns-3 : tie.Need-returns-3
+returns-2 : tie.Need-returns-2 Inv-loop μ-loop
 unfolding operandsAt
-returns-3 c =
-    let pair-laid = c .before .before .before .before .before .pair-laid in
-    let if1 = c .before .before .before .before .if1 in
-    let pair-laid2 = c .before .before .before .pair-laid2 in
-    let if2 = c .before .before .if2 in
-    let pair-laid3 = c .before .pair-laid3 in
-    let if3 = c .if3 in
-    sym (chain-goes-on _ _ _ (pair-laid .ensures) (if1 .left) ∙ chain-goes-on _ _ _ (pair-laid2 .ensures) (if2 .left) ∙ chain-stops _ _ _ (pair-laid3 .ensures) (if3 .taken))
-
-add-pair-laid-4 : tie.Need-add-pair-laid-4
-add-pair-laid-4 c =
-    let s = c .before .before .before .before .before .before .before in
-    omega (arith, line-within (s .args .modfile .now) (s .args .at) 14 (s .pre))
-
-pair-laid-requires-4 : tie.Need-pair-laid-requires-4
-pair-laid-requires-4 c κs =
-    let s = c .before .before .before .before .before .before .before in
-    pair-of-line _ (s .args .at) (s .pre) 9 (s .args .at + 54) (omega arith) (omega arith)
-
-returns-4 : tie.Need-returns-4
-unfolding operandsAt
-returns-4 c =
-    let pair-laid = c .before .before .before .before .before .before .pair-laid in
-    let if1 = c .before .before .before .before .before .if1 in
-    let pair-laid2 = c .before .before .before .before .pair-laid2 in
-    let if2 = c .before .before .before .if2 in
-    let pair-laid3 = c .before .before .pair-laid3 in
-    let if3 = c .before .if3 in
-    let pair-laid4 = c .pair-laid4 in
-    pair-laid4 .ensures ∙ sym (chain-goes-on _ _ _ (pair-laid .ensures) (if1 .left) ∙ chain-goes-on _ _ _ (pair-laid2 .ensures) (if2 .left) ∙ chain-goes-on _ _ _ (pair-laid3 .ensures) (if3 .left))
+returns-2 c = let e : c .before .loop .j ≡ 4 = omega arith in sym (rw e at (c .before .loop .inv .1))
 
 pub operands-laid-spec : {M : Type 1} → statement M
 operands-laid-spec =
     tie.close
     (tie.spec
+    Inv-loop
+    μ-loop
+    loop-holds
     add-pair-laid
+    (λ c. search needs)
+    add-pair-laid-2
     pair-laid-requires
     returns
-    add-pair-laid-2
-    pair-laid-requires-2
-    returns-2
-    add-pair-laid-3
-    pair-laid-requires-3
-    returns-3
-    add-pair-laid-4
-    pair-laid-requires-4
-    returns-4)
+    (λ c. search needs)
+    (λ c. search needs)
+    loop-again
+    returns-2)

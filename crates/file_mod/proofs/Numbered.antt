@@ -1,0 +1,47 @@
+-- A right line by its number: line k after the first is that of processor k / C and slot k % C.
+use Prim.Native.Nat.{ℕ, _+_, _*_, _/_, _%_, _<_, _≤_}
+use mathlib.Core.Path.{_≡_, ap, _∙_}
+use mathlib.Core.Bool.{true}
+use mathlib.Core.List.{List}
+use native.Mathlib.Omega.{arith}
+use native.Mathlib.Nat.{div-lt-iff-lt-mul, mod-lt}
+use Rattle.fields.specs.Field.{isFieldAt}
+use Rattle.model.specs.Netlist.{netSize}
+use Rattle.model.specs.ModuleFile.{modLine, modIndex, modField, moduleOf}
+use Rattle.file_mod_lines.proofs.Header.{field-of-line}
+use Rattle.file_mod_lines.proofs.Lines.{line-index}
+use Rattle.file_mod_table.specs.Line.{LinesLaid, LineOf}
+use Rattle.file_mod_table.proofs.Slots.{line-of, slot-laid}
+use Rattle.file_mod.specs.Formed.{Formed}
+
+module _ (l : List ℕ) (p c : ℕ) (laid : LinesLaid l p c) (k : ℕ) (low : k < p * c) where
+  at-processor : k / c < p
+  at-processor = div-lt-iff-lt-mul {k = c} {x = k} {y = p} (omega (arith, laid .sized .slots-low)) .1 low
+
+  at-slot : k % c < c
+  at-slot = mod-lt k {m = c} (omega (arith, laid .sized .slots-low))
+
+  pub line-numbered : LineOf l c (k / c) (k % c)
+  line-numbered = line-of l p c (k / c) (k % c) laid at-processor at-slot
+
+  index : modIndex l (k / c) (k % c) ≡ k + 1
+  index = ap (λ (n : ℕ). modIndex l (k / n) (k % n)) (laid .sized .slots) ∙ line-index l k
+
+  -- the field that has its signal
+  pub signal-laid : isFieldAt l (85 * (k + 1) + 12) ≡ true
+  signal-laid =
+      field-of-line l (modLine (modIndex l (k / c) (k % c))) 14 (slot-laid l c (k / c) (k % c) line-numbered .line) 2 (85 * (k + 1) + 12)
+      (omega arith) (omega (arith, index))
+
+  pub signal-few : modField l (k + 1) 2 ≤ 4096
+  unfolding moduleOf
+  signal-few =
+      let right : modField l (modIndex l (k / c) (k % c)) 2 ≤ line-numbered .laid .network .size =
+      slot-laid l c (k / c) (k % c) line-numbered .signal in
+      omega (arith, rw index at right, line-numbered .laid .few)
+
+-- its signal is one of the network's
+pub signal-numbered : (net l : List ℕ) (p c : ℕ) → Formed net l p c → (k : ℕ) → k < p * c
+    → moduleOf l .signal (k / c) (k % c) ≤ netSize net
+signal-numbered net l p c formed k low =
+    formed .within (k / c) (k % c) (at-processor l p c (formed .laid) k low) (at-slot l p c (formed .laid) k low)

@@ -1,0 +1,4 @@
+pub mod Sends
+pub mod Operands
+pub mod Four
+pub mod Told
