@@ -3,17 +3,17 @@
 use instruction::Instruction;
 use instruction::Operand;
 ghost use mathlib.Core.Path.{_≡_};
-ghost use Prim.Native.Nat.{_+_, _*_, _<_};
-ghost use Rattle.model.specs.ModuleFile.{modIndex, modField, moduleOf};
-ghost use Rattle.instruction.specs.Operand.{operandOf};
+ghost use Prim.Native.Nat.{_<_};
+ghost use Rattle.model.specs.ModuleFile.{moduleOf};
 ghost use Rattle.instruction.specs.Instruction.{instructionOf};
 ghost use Rattle.file_mod_table.specs.Line.{LineOf};
+ghost use Rattle.file_mod_table.specs.Mirror.{columnOf, pairOf};
 
 // The number in a column of the line of a processor and a slot.
 fn column_at(modfile: &[u8], slots: u16, processor: u16, slot: u16, column: usize) -> u16
     requires { ⌜ LineOf (now modfile) slots processor slot ⌝ }
     requires { ⌜ column < 14 ⌝ }
-    ensures { λ r. ⌜ r ≡ modField (now (modfile .entry)) (modIndex (now (modfile .entry)) processor slot) column ⌝ }
+    ensures { λ r. ⌜ r ≡ columnOf (now (modfile .entry)) processor slot column ⌝ }
 {
     let line = file_mod_lines::line_place(processor, slot, slots);
     fields::number_at(modfile, line + 6 * column)
@@ -55,7 +55,7 @@ pub fn sender_at(modfile: &[u8], slots: u16, processor: u16, slot: u16) -> u16
 fn pair_at(modfile: &[u8], slots: u16, processor: u16, slot: u16, j: usize) -> Operand
     requires { ⌜ LineOf (now modfile) slots processor slot ⌝ }
     requires { ⌜ j < 5 ⌝ }
-    ensures { λ r. ⌜ r ≡ operandOf (modField (now (modfile .entry)) (modIndex (now (modfile .entry)) processor slot) (3 + 2 * j)) (modField (now (modfile .entry)) (modIndex (now (modfile .entry)) processor slot) (4 + 2 * j)) ⌝ }
+    ensures { λ r. ⌜ r ≡ pairOf (now (modfile .entry)) processor slot j ⌝ }
 {
     instruction::operand_of(
         column_at(modfile, slots, processor, slot, 3 + 2 * j),

@@ -11,8 +11,9 @@ returns c = sym (reads-switch-present _ _ _ _ _ _ ∙ low-stops _ _ _ (c .if1 .t
 
 returns-2 : tie.Need-returns-2
 returns-2 c =
-    let right = sym (reads-switch-present _ _ _ _ _ _ ∙ low-goes-on _ _ _ (c .before .before .if1 .left)) in
-    c .sent-right .ensures ∙ (rw (c .before .wanted-send .ensures) right)
+    c .sent-right .ensures
+    ∙ (rw (c .before .wanted-send .ensures)
+    (sym (reads-switch-present _ _ _ _ _ _ ∙ low-goes-on _ _ _ (c .before .before .if1 .left))))
 
 pub switch-present-right-spec : {M : Type 1} → statement M
 switch-present-right-spec =
