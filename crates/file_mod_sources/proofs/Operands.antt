@@ -25,7 +25,8 @@ use Rattle.instruction.proofs.Pairs.{part-of-pair, location-of-pair}
 use Rattle.file_mod_lines.proofs.Header.{field-of-line}
 use Rattle.file_mod_table.specs.Line.{LineOf}
 use Rattle.file_mod_table.proofs.Slots.{slot-laid, operand-low, line-beside}
-use Rattle.file_mod_sources.specs.Mirror.{sentRight, wantedSend, OperandOf}
+use Rattle.file_mod_sources.specs.Asked.{OperandOf}
+use Rattle.file_mod_sources.specs.Mirror.{sentRight, wantedSend}
 
 module _ (m : Module) (p i k kind s : ℕ) where
   pub reads-local-earlier : reads m p i localEarlier k kind s ≡ eqb kind unitDelay and eqb (m .signal p k) s

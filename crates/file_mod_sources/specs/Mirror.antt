@@ -1,7 +1,6 @@
 -- How the code judges what an operand reads, part by part: it mirrors private functions and need not be believed. `operandRight` is what
 -- a caller reads.
-use Prim.Native.Nat.{ℕ, _<_, _≤_}
-use mathlib.Core.Path.{_≡_}
+use Prim.Native.Nat.{ℕ}
 use mathlib.Core.Bool.{Bool}
 use mathlib.Core.List.{List}
 use lib.Dec.{eqb}
@@ -10,11 +9,6 @@ use Rattle.logic.specs.Choice.{if_then_else_}
 use Rattle.model.specs.Network.{unitDelay}
 use Rattle.model.specs.Module.{Module, localEarlier, localPresent, sentPart, sentSignal, received, reads}
 use Rattle.model.specs.ModuleFile.{moduleOf}
-use Rattle.model.specs.Netlist.{netSize, netCheck}
-use Rattle.model.specs.Refusal.{pass}
-use Rattle.instruction.specs.Instruction.{operandNamed}
-use Rattle.instruction.specs.declared.Operand.{Operand}
-use Rattle.file_mod_table.specs.Line.{LineOf}
 use Rattle.file_mod_sources.specs.declared.Gate.{Gate}
 
 -- the condition on a send that the two switch parts share ("look at the send into k"): something is sent into switch location k of
@@ -29,12 +23,3 @@ wantedSend kind = if eqb kind unitDelay then localEarlier else localPresent
 -- an operand of the gate that names a part and location k reads the source
 abbrev pub gateReads : List ℕ → Gate → ℕ → ℕ → Bool
 gateReads modfile gate part k = reads (moduleOf modfile) (gate .processor) (gate .slot) part k (gate .kind) (gate .source)
-
--- what is asked where an operand is judged: a is operand j of the line of processor p and slot i, whose signal s the accepted NET has
-pub record OperandOf (net modfile : List ℕ) (c p i s j : ℕ) (a : Operand) : Type 0 where
-  pub line : LineOf modfile c p i
-  pub accepted : netCheck 4096 net ≡ pass
-  pub placed : s ≡ moduleOf modfile .signal p i
-  pub within : s ≤ netSize net
-  pub low : j < 4
-  pub named : a ≡ operandNamed (moduleOf modfile) p i j

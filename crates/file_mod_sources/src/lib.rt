@@ -11,7 +11,8 @@ ghost use Rattle.model.specs.Module.{localEarlier, localPresent, switchEarlier,
 ghost use Rattle.model.specs.ModuleFile.{moduleOf};
 ghost use Rattle.instruction.specs.Operand.{partOf, locationOf};
 ghost use Rattle.file_mod_table.specs.Line.{LineOf};
-ghost use Rattle.file_mod_sources.specs.Mirror.{sentRight, wantedSend, gateReads, OperandOf};
+ghost use Rattle.file_mod_sources.specs.Asked.{OperandOf};
+ghost use Rattle.file_mod_sources.specs.Mirror.{sentRight, wantedSend, gateReads};
 
 // The gate of an operand: its processor and slot, its kind, and the source that the operand has to read.
 struct Gate {
