@@ -11,7 +11,7 @@ use lib.Seq.{getD-set-same, getD-set-other}
 use borrow.Author.Tests.{eq-eqb, eqb-true}
 use Rattle.logic.specs.Test.{one}
 use Rattle.logic.specs.Choice.{if_then_else_}
-use Rattle.graph_chains.specs.Graph.{Edge, Path, Graph}
+use Rattle.graph_ranks.specs.Graph.{Edge, Path, Graph}
 use Rattle.model.specs.Network.{Signal, rankOrder, Feeds, Chain}
 use Rattle.model.specs.Netlist.{netField, network}
 use Rattle.file_net_chains.specs.Chain.{Lines}

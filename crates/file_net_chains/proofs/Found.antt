@@ -5,7 +5,7 @@ use mathlib.Core.List.{List}
 use native.Mathlib.Omega.{arith}
 use native.Mathlib.Decide.{ℕ-discrete}
 use borrow.Author.Tests.{eq-eqb, ne-eqb}
-use Rattle.graph_chains.specs.Graph.{FirstLoop}
+use Rattle.graph_ranks.specs.Graph.{FirstLoop}
 use Rattle.model.specs.Refusal.{unless}
 use Rattle.model.specs.Network.{Network, Signal, Chain, one, more}
 use Rattle.model.specs.Netlist.{network, netChains}

@@ -1,9 +1,4 @@
-pub mod Zeros
-pub mod Stores
 pub mod Pushing
 pub mod Searching
-pub mod Ranking
-pub mod Passing
 pub mod Loops
-pub mod Descending
 pub mod Walk

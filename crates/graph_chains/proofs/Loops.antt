@@ -7,9 +7,9 @@ use mathlib.Core.Logic.{⊎-elim}
 use native.Mathlib.Omega.{arith}
 use native.Mathlib.Nat.{eq-or-lt-of-le}
 use lib.ListN.{getD}
-use Rattle.graph_chains.specs.Graph.{Edge, Path, one, more, Loops, Graph, Decides, FirstLoop}
-use Rattle.graph_chains.specs.Ranks.{highest, RanksRight}
-use Rattle.graph_chains.proofs.Ranking.{highest-above}
+use Rattle.graph_ranks.specs.Graph.{Edge, Path, one, more, Loops, Graph, Decides, FirstLoop}
+use Rattle.graph_ranks.specs.Ranks.{highest, RanksRight}
+use Rattle.graph_ranks.proofs.Ranking.{highest-above}
 
 module _ {follow edges : List ℕ} {size : ℕ} {ranks : List ℕ} (r : RanksRight follow edges size ranks) where
   -- the rank rises along an edge

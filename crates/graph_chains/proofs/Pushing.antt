@@ -9,11 +9,11 @@ use lib.ListN.{length, getD, set, length-set}
 use lib.Seq.{getD-set-same}
 use borrow.Author.Tests.{eqb-true, eqb-false, eq-eqb, ne-eqb}
 use Rattle.logic.specs.Choice.{if_then_else_}
-use Rattle.graph_chains.specs.Graph.{places}
-use Rattle.graph_chains.specs.Zeros.{zeros}
+use Rattle.graph_ranks.specs.Graph.{places}
+use Rattle.graph_ranks.specs.Zeros.{zeros}
 use Rattle.graph_chains.specs.Search.{Search, state, Room, pushed, pushedTo, pushedAll}
-use Rattle.graph_chains.proofs.Zeros.{zeros-filled}
-use Rattle.graph_chains.proofs.Stores.{read-cases}
+use Rattle.graph_ranks.proofs.Zeros.{zeros-filled}
+use Rattle.graph_ranks.proofs.Stores.{read-cases}
 
 -- x is stacked
 abbrev pub stacked : Search → ℕ → Search

@@ -11,10 +11,10 @@ use lib.ListN.{length, getD, set, replicate, length-replicate}
 use lib.Dec.{eqb}
 use borrow.Author.Tests.{eqb-true, eqb-false, not-true, not-false}
 use lib.Seq.{getD-set-same, getD-set-other}
-use Rattle.graph_chains.specs.Graph.{places, Entries, Edge, Path, one, more, Loops, Decides}
+use Rattle.graph_ranks.specs.Graph.{places, Entries, Edge, Path, one, more, Loops, Decides}
 use Rattle.graph_chains.specs.Search.{Search, state, Room, pushed, pushedTo, pushedAll}
-use Rattle.graph_chains.proofs.Zeros.{zeros-at, zeros-length}
-use Rattle.graph_chains.proofs.Stores.{equal-or-not, read-cases, all-zero}
+use Rattle.graph_ranks.proofs.Zeros.{zeros-at, zeros-length}
+use Rattle.graph_ranks.proofs.Stores.{equal-or-not, read-cases, all-zero}
 use Rattle.graph_chains.proofs.Pushing.{stacked, push-cases, stack-room, push-room, mark-stays, push-stays, push-marks, left-over, push-less}
 
 -- an edge before a path

@@ -6,11 +6,11 @@ use mathlib.Core.List.{List}
 use mathlib.Core.Logic.{⊎-elim}
 use native.Mathlib.Omega.{arith}
 use lib.ListN.{length, getD, set, replicate, length-set, length-replicate}
-use Rattle.graph_chains.specs.Graph.{places, Edge, Path, one, Followed, Graph, FirstLoop}
-use Rattle.graph_chains.specs.Zeros.{zeros}
-use Rattle.graph_chains.specs.Ranks.{Ranked}
-use Rattle.graph_chains.proofs.Zeros.{zeros-at, zeros-filled}
-use Rattle.graph_chains.proofs.Stores.{equal-or-not, read-cases, all-zero}
+use Rattle.graph_ranks.specs.Graph.{places, Edge, Path, one, Followed, Graph, FirstLoop}
+use Rattle.graph_ranks.specs.Zeros.{zeros}
+use Rattle.graph_ranks.specs.Ranks.{Ranked}
+use Rattle.graph_ranks.proofs.Zeros.{zeros-at, zeros-filled}
+use Rattle.graph_ranks.proofs.Stores.{equal-or-not, read-cases, all-zero}
 use Rattle.graph_chains.proofs.Searching.{edge-path}
 
 module _ {follow edges : List ℕ} {size : ℕ} {ranks : List ℕ} (g : Graph follow edges size) (r : Ranked follow edges size ranks)

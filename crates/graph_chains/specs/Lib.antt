@@ -1,6 +1,1 @@
-pub mod Graph
-pub mod Zeros
 pub mod Search
-pub mod Ranks
-pub mod Passes
-pub mod Descent

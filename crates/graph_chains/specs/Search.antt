@@ -5,8 +5,8 @@ use mathlib.Core.List.{List}
 use lib.Dec.{eqb}
 use lib.ListN.{length, getD, set}
 use Rattle.logic.specs.Choice.{if_then_else_}
-use Rattle.graph_chains.specs.Graph.{places}
-use Rattle.graph_chains.specs.Zeros.{zeros}
+use Rattle.graph_ranks.specs.Graph.{places}
+use Rattle.graph_ranks.specs.Zeros.{zeros}
 
 -- a mark for each node, and the marked nodes whose feeders are still to be marked: the stack below depth
 pub record Search : Type 0 where

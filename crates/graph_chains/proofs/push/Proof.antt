@@ -1,6 +1,6 @@
 -- `push` marks and stacks as `pushed` says; an unmarked node is left to count where the stack is written, so it has room.
 use native.Mathlib.Omega.{arith}
-use Rattle.graph_chains.proofs.Zeros.{zeros-at}
+use Rattle.graph_ranks.proofs.Zeros.{zeros-at}
 use Rattle.graph_chains.proofs.Pushing.{push-answers, push-none, push-old, push-new}
 use borrow.Author.Needs.{needs}
 use Rattle.graph_chains.proofs.push.Statement.{statement}

@@ -2,7 +2,7 @@
 use Prim.Native.Nat.{ℕ, _+_, _*_, _<_}
 use native.Mathlib.Omega.{arith}
 use lib.ListN.{getD}
-use Rattle.graph_chains.specs.Graph.{places}
+use Rattle.graph_ranks.specs.Graph.{places}
 use Rattle.graph_chains.proofs.Pushing.{push-four}
 use borrow.Author.Needs.{needs}
 use Rattle.graph_chains.proofs.push_feeders.Statement.{statement}

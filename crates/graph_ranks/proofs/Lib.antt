@@ -1,0 +1,5 @@
+pub mod Zeros
+pub mod Stores
+pub mod Ranking
+pub mod Passing
+pub mod Descending
