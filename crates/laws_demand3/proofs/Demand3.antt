@@ -23,6 +23,7 @@ use Rattle.model.specs.Demands.{Trace, end, next, Demand3}
 use Rattle.model.proofs.Machine.{Near}
 use Rattle.model.proofs.Session.{Like}
 use Rattle.model.proofs.Keeping.{kept-table, kept-near, keeps}
+use Rattle.model.proofs.Value.{start-input}
 use Rattle.model.proofs.Accepted.{net-accepted, mod-accepted, net-size}
 use Rattle.model.proofs.Demands.{accepted-formed, accepted-acyclic, accepted-scheduled, placeOf, placed-there}
 use Rattle.model.proofs.Traces.{demand-3}
@@ -48,7 +49,7 @@ use Rattle.laws_kept.proofs.Heads.{with-head-finished, with-head-hand, with-hea
 use Rattle.laws_kept.proofs.Replies.{reply-lengths, reply-ranged, reply-holding}
 use Rattle.laws_demand3.specs.Lending.{working, openedBy, Opens, Meets, Answered, own, other, Post, Throughout, EveryCall, numberOf, Every32}
 use Rattle.laws_demand3.proofs.Chained.{Good, meets}
-use Rattle.laws_demand3.proofs.Refusals.{command-low}
+use Rattle.laws_demand3.proofs.Refusals.{Not44, command-44}
 use Rattle.laws_demand3.proofs.Telling.{reply-few, own-taken, wrong-lent, other-bits, other-taken, other-same}
 
 -- equal lengths
@@ -125,21 +126,21 @@ module _ (f : Network) (g : Module) where
   every-call P holds good (next {b} {c} a b′ p rest) = (holds b c a b′ good p, every-call P holds (stays b c a b′ good p) rest)
 
   -- 44 never comes
-  answer-low : (b : Buffers) (c : Lent) (a : Answer) (b′ : Buffers) → Good f g b → Post b c a b′ → numberOf a ≤ 43
-  answer-low b c a b′ good p = go (p .answered)
+  answer-not-44 : (b : Buffers) (c : Lent) (a : Answer) (b′ : Buffers) → Good f g b → Post b c a b′ → Not44 (numberOf a)
+  answer-not-44 b c a b′ good p = go (p .answered)
     where
-      forty : 40 ≤ 43
-      forty = omega arith
+      forty : Not44 40
+      forty e = omega arith
 
-      go : Answered b c (p .bits) b′ → numberOf a ≤ 43
+      go : Answered b c (p .bits) b′ → Not44 (numberOf a)
       go (own e met) =
-          subst (λ (x : Answer). numberOf x ≤ 43)
+          subst (λ (x : Answer). Not44 (numberOf x))
           (sym
           (p .taken ∙ own-taken b (good .lengths) (good .range) (good .few) (c .call) (p .numbers) (p .bits) b′ met
           ∙ reply-answer b (c .call) (good .lengths) (good .range)))
-          (command-low (networkIn (b .panel) (b .program)) _ (headIn (b .panel)) _ (c .call))
+          (command-44 (networkIn (b .panel) (b .program)) _ (headIn (b .panel)) _ (c .call))
       go (other lent left around e l met here there) =
-          subst (λ (x : Answer). numberOf x ≤ 43)
+          subst (λ (x : Answer). Not44 (numberOf x))
           (sym (p .taken ∙ other-taken lent (c .call) (wrong-lent lent c e l) (p .bits) left met)) forty
 
   -- the bits handed back are those of the answer
@@ -231,7 +232,7 @@ module _ (files : Files) (accepted : Accepted panelLimit files) where
   -- whichever values follow the rules of VAL
   module _ (good : Good n m opened) (table : List (ℕ → ℕ) → ℕ → ℕ) (follows : FollowsAlways n (givenOf files) table) where
     bytes-demand-3 : {cs : List Lent} (t : Trace Post opened cs) → Demand3 Post working fixed n m (givenOf files) table t []
-    unfolding fresh moduleOf network start plainAfter
+    unfolding fresh moduleOf network plainAfter
     bytes-demand-3 t =
         let formed = accepted-formed panelLimit files accepted in
         let acyclic = accepted-acyclic panelLimit files accepted in
@@ -260,7 +261,7 @@ module _ (files : Files) (accepted : Accepted panelLimit files) where
             let head = loaded-head (files .NET) (files .MOD) (net-accepted panelLimit files accepted) (mod-accepted panelLimit files accepted) (files .STIM) in
             record {
               finished = head .0;
-              hand = λ s i k. loaded-network (files .NET) (files .MOD) (net-accepted panelLimit files accepted) (mod-accepted panelLimit files accepted) (files .STIM) .hands s i;
+              hand = λ s i k. loaded-network (files .NET) (files .MOD) (net-accepted panelLimit files accepted) (mod-accepted panelLimit files accepted) (files .STIM) .hands s i ∙ start-input n (givenOf files) s i k;
               watch = ap (λ (x : ℕ). record { signal = x; mask = maskIn (opened .panel) }) (head .1) ∙ ap (λ (x : ℕ). record { signal = 1; mask = x }) (head .2);
             }
 
@@ -295,8 +296,8 @@ module _ (files : Files) (accepted : Accepted panelLimit files) where
     pub session-good : {cs : List Lent} (t : Trace Post left cs) → Throughout (Good n m) t
     session-good t = good-throughout n m left-good t
 
-    pub session-never-44 : {cs : List Lent} (t : Trace Post left cs) → EveryCall (λ c bits a. numberOf a ≤ 43) t
-    session-never-44 t = every-call n m (λ c bits a. numberOf a ≤ 43) (answer-low n m) left-good t
+    pub session-never-44 : {cs : List Lent} (t : Trace Post left cs) → EveryCall (λ c bits a. numberOf a ≡ 44 → ⊥) t
+    session-never-44 t = every-call n m (λ c bits a. Not44 (numberOf a)) (answer-not-44 n m) left-good t
 
     -- The 64 bits handed back are those of the answers, which are the plain session's by demand 3
     pub session-bits : {cs : List Lent} (t : Trace Post left cs) → EveryCall (λ c bits a. bits ≡ answerBits a) t

@@ -1,5 +1,6 @@
--- "44 never comes" (01, Session): in a list of calls on the session's buffers every refusal is 40 to 43.
-use Prim.Native.Nat.{ℕ, _+_, _≤_}
+-- "44 never comes" (01, Session): no call on the session's own buffers is refused with 44.
+use Prim.Native.Nat.{ℕ, _+_}
+use mathlib.Core.Path.{_≡_}
 use mathlib.Core.Bool.{Bool, true, false}
 use native.Mathlib.Omega.{arith}
 use lib.Dec.{eqb, leb}
@@ -15,33 +16,39 @@ numberIn : Check → ℕ
 numberIn pass = 0
 numberIn (fail number returned) = number
 
-first-low : (a b : Check) → numberIn a ≤ 43 → numberIn b ≤ 43 → numberIn (first a b) ≤ 43
+abbrev pub Not44 : ℕ → Type 0
+Not44 number = number ≡ 44 → ⊥
+
+none-44 : Not44 0
+none-44 e = omega arith
+
+first-44 : (a b : Check) → Not44 (numberIn a) → Not44 (numberIn b) → Not44 (numberIn (first a b))
 unfolding first numberIn
-first-low pass b h k = k
-first-low (fail number returned) b h k = h
+first-44 pass b h k = k
+first-44 (fail number returned) b h k = h
 
-unless-low : (t : Bool) (number returned : ℕ) → number ≤ 43 → numberIn (unless t number returned) ≤ 43
+unless-44 : (t : Bool) (number returned : ℕ) → Not44 number → Not44 (numberIn (unless t number returned))
 unfolding unless numberIn
-unless-low true number returned h = omega arith
-unless-low false number returned h = h
+unless-44 true number returned h = none-44
+unless-44 false number returned h = h
 
-call-low : (n : Network) (finished : ℕ) (c : Call) → numberIn (callCheck n finished c) ≤ 43
+call-44 : (n : Network) (finished : ℕ) (c : Call) → Not44 (numberIn (callCheck n finished c))
 unfolding callCheck
-call-low n finished (set s v) =
-    first-low (unless (isSignal n s and eqb (n .kind s) input) 41 s) (unless (leb v 3) 42 v) (unless-low _ 41 s (omega arith)) (unless-low _ 42 v (omega arith))
-call-low n finished (watch s mask) =
-    first-low (unless (isSignal n s) 41 s) (unless (leb mask 15) 42 mask) (unless-low _ 41 s (omega arith)) (unless-low _ 42 mask (omega arith))
-call-low n finished (read s) = unless-low (isSignal n s) 41 s (omega arith)
-call-low n finished (run k) = unless-low (leb (finished + k) 65535) 43 finished (omega arith)
+call-44 n finished (set s v) =
+    first-44 (unless (isSignal n s and eqb (n .kind s) input) 41 s) (unless (leb v 3) 42 v) (unless-44 _ 41 s (λ e. omega arith)) (unless-44 _ 42 v (λ e. omega arith))
+call-44 n finished (watch s mask) =
+    first-44 (unless (isSignal n s) 41 s) (unless (leb mask 15) 42 mask) (unless-44 _ 41 s (λ e. omega arith)) (unless-44 _ 42 mask (λ e. omega arith))
+call-44 n finished (read s) = unless-44 (isSignal n s) 41 s (λ e. omega arith)
+call-44 n finished (run k) = unless-44 (leb (finished + k) 65535) 43 finished (λ e. omega arith)
 
-meet-low : (n : Network) (E : Engine) (h : Head) (x : E .State) (c : Call) (k : Check) → numberIn k ≤ 43 → numberOf (meet fixed n E h x c k .answer) ≤ 43
+meet-44 : (n : Network) (E : Engine) (h : Head) (x : E .State) (c : Call) (k : Check) → Not44 (numberIn k) → Not44 (numberOf (meet fixed n E h x c k .answer))
 unfolding meet perform running numberIn
-meet-low n E h x (set s v) pass l = omega arith
-meet-low n E h x (watch s mask) pass l = omega arith
-meet-low n E h x (read s) pass l = omega arith
-meet-low n E h x (run k) pass l = omega arith
-meet-low n E h x c (fail number returned) l = l
+meet-44 n E h x (set s v) pass l = none-44
+meet-44 n E h x (watch s mask) pass l = none-44
+meet-44 n E h x (read s) pass l = none-44
+meet-44 n E h x (run k) pass l = none-44
+meet-44 n E h x c (fail number returned) l = l
 
--- 41 to 43
-pub command-low : (n : Network) (E : Engine) (h : Head) (x : E .State) (c : Call) → numberOf (meet fixed n E h x c (callCheck n (h .finished) c) .answer) ≤ 43
-command-low n E h x c = meet-low n E h x c (callCheck n (h .finished) c) (call-low n (h .finished) c)
+-- a command is not refused with 44
+pub command-44 : (n : Network) (E : Engine) (h : Head) (x : E .State) (c : Call) → Not44 (numberOf (meet fixed n E h x c (callCheck n (h .finished) c) .answer))
+command-44 n E h x c = meet-44 n E h x c (callCheck n (h .finished) c) (call-44 n (h .finished) c)

@@ -23,6 +23,7 @@ use Rattle.model.specs.ModuleFile.{modProcessors, modSlots, moduleOf, modCheck}
 use Rattle.model.specs.Stimulus.{stimCheck, held as given}
 use Rattle.model.specs.Value.{start}
 use Rattle.model.specs.Machine.{opening}
+use Rattle.model.proofs.Value.{start-code}
 use Rattle.model.proofs.Accepted.{net-accepted, mod-accepted, stim-accepted, net-size, net-signal, SignalRight, Located, mod-processors, mod-slots, mod-slot, mod-scheduled, stim-right, held-code}
 use Rattle.model.proofs.Machine.{Small, opening-small}
 use Rattle.buffers_memory.specs.Memory.{blank, place, within}
@@ -87,9 +88,8 @@ module _ (net modfile stim : List ℕ) (n : netCheck 4096 net ≡ pass) (m : mod
   slots-is = same-lines .slots
 
   -- "At t = 0 every signal has its given value, or U": a code
-  zeroth-code : (s : ℕ) → zeroth s ≤ 3
-  unfolding start
-  zeroth-code s = held-code (network net) stim (stim-right (network net) stim t) 0 s
+  zeroth-code : (s : ℕ) → Signal (network net) s → zeroth s ≤ 3
+  zeroth-code = start-code (network net) (given stim 0) (λ s g. held-code (network net) stim (stim-right (network net) stim t) 0 s)
 
   -- the panel
   head : Head panel
@@ -173,7 +173,7 @@ module _ (net modfile stim : List ℕ) (n : netCheck 4096 net ≡ pass) (m : mod
           kind-low = omega (arith, range);
           kind-high = omega (arith, range);
           codes = codes-in-range;
-          hand-high = omega (arith, same-signals .hands s is-signal, zeroth-code s);
+          hand-high = omega (arith, same-signals .hands s is-signal, zeroth-code s is-signal);
           processor-low = omega (arith, there .processor);
           slot-low = omega (arith, there .slot);
         }
@@ -221,7 +221,7 @@ module _ (net modfile stim : List ℕ) (n : netCheck 4096 net ≡ pass) (m : mod
 
   -- the memory
   small : Small (moduleOf modfile) (opening (moduleOf modfile) zeroth)
-  small = opening-small (mod-scheduled (network net) modfile m .laid) zeroth (λ s g. zeroth-code s)
+  small = opening-small (mod-scheduled (network net) modfile m .laid) zeroth zeroth-code
 
   module _ {p part k : ℕ} (there : Place p part k) where
     memory-at : getD memory (place p part k) 0 ≡ openingByte modfile zeroth p part k

@@ -10,12 +10,13 @@ use borrow.Author.Tests.{lt-ltb, le-ltb, ne-eqb}
 use Rattle.writing.specs.Text.{lineText}
 use Rattle.model.specs.Files.{Files}
 use Rattle.model.specs.Network.{Signal}
-use Rattle.model.specs.Value.{start, VAL, history}
+use Rattle.model.specs.Value.{VAL, history}
 use Rattle.model.specs.Stimulus.{endTime}
-use Rattle.model.specs.Acceptance.{panelLimit, networkOf, Accepted}
+use Rattle.model.specs.Acceptance.{panelLimit, networkOf, givenOf, Accepted}
 use Rattle.model.specs.Listing.{valueAt, joined, listedFirst, listedChange, listedCycle}
 use Rattle.model.specs.Netlist.{network}
 use Rattle.logic.specs.Choice.{if_then_else_}
+use Rattle.model.proofs.Value.{start-code}
 use Rattle.model.proofs.Accepted.{net-accepted, net-size, stim-accepted, stim-right, held-code}
 use Rattle.model.proofs.Demands.{joined-same}
 use Rattle.listing_cycle.specs.Changes.{pieceLength, notShown, changeLine, changeLines}
@@ -35,10 +36,10 @@ module _ (files : Files) (accepted : Accepted panelLimit files) where
   size = net-size panelLimit (files .NET) (net-accepted panelLimit files accepted) .1
 
   -- at time 0 every value is a code, and so none is the one that stands for no value
-  first-code : (s : ℕ) → valueAt files 0 s ≤ 3
-  unfolding valueAt history VAL start
-  first-code s =
-      held-code (networkOf files) (files .STIM) (stim-right (networkOf files) (files .STIM) (stim-accepted panelLimit files accepted)) 0 s
+  first-code : (s : ℕ) → Signal (networkOf files) s → valueAt files 0 s ≤ 3
+  unfolding valueAt history VAL
+  first-code = start-code (networkOf files) (givenOf files) (λ s g.
+      held-code (networkOf files) (files .STIM) (stim-right (networkOf files) (files .STIM) (stim-accepted panelLimit files accepted)) 0 s)
 
   module _ (values shown : ℕ → ℕ) where
     pub piece-is : (k : ℕ) → k ≤ endTime (files .STIM)
@@ -48,7 +49,7 @@ module _ (files : Files) (accepted : Accepted panelLimit files) where
     piece-is zero h v u =
         joined-same (networkOf files .size) _ _ (λ j l.
         let g : Signal (networkOf files) (suc j) = record { low = omega arith; high = l } in
-        rw (v (suc j) g, u (suc j) g, ne-eqb (valueAt files 0 (suc j)) notShown (λ q. omega (arith, first-code (suc j)))))
+        rw (v (suc j) g, u (suc j) g, ne-eqb (valueAt files 0 (suc j)) notShown (λ q. omega (arith, first-code (suc j) g))))
     piece-is (suc t) h v u =
         rw (lt-ltb t (endTime (files .STIM)) (omega arith))
         (joined-same (networkOf files .size) _ _ (λ j l.

@@ -42,6 +42,16 @@ module _ (n : Network) (base : ℕ → ℕ) where
   unfolding settle
   settle-rank d s k = rw (k, settle)
 
+-- what is known of time 0 without its text: an input starts with its given value, and equal given values start alike
+module _ (n : Network) where
+  pub start-input : (given : ℕ → ℕ) (s : ℕ) → Signal n s → n .kind s ≡ input → start n given s ≡ given s
+  unfolding start
+  start-input given s g k = refl
+
+  pub start-same : (given given′ : ℕ → ℕ) → Same n given given′ → Same n (start n given) (start n given′)
+  unfolding start
+  start-same given given′ same = same
+
 -- two rows agree on the inputs
 abbrev pub SameInputs : Network → (ℕ → ℕ) → (ℕ → ℕ) → Type 0
 SameInputs n row row′ = (s : ℕ) → Signal n s → n .kind s ≡ input → row s ≡ row′ s
@@ -178,8 +188,8 @@ module _ (n : Network) (formed : Formed n) where
 
     pub VAL-same : (given given′ : ℕ → ℕ) → Same n given given′ → {rows rows′ : List (ℕ → ℕ)} → SameRows n rows rows′
         → Same n (VAL n given rows) (VAL n given′ rows′)
-    unfolding VAL start
-    VAL-same given given′ same same-none s g = same s g
+    unfolding VAL
+    VAL-same given given′ same same-none s g = start-same n given given′ same s g
     VAL-same given given′ same (same-more {row} {row′} {rows} {rows′} inputs rest) s g =
         step-same row row′ (VAL n given rows) (VAL n given′ rows′) (next n row (VAL n given rows)) (next n row′ (VAL n given′ rows′))
         inputs (VAL-same given given′ same rest) (next-step row (VAL n given rows)) (next-step row′ (VAL n given′ rows′)) s g
@@ -187,6 +197,11 @@ module _ (n : Network) (formed : Formed n) where
 -- a state holds codes
 abbrev pub Codes : Network → (ℕ → ℕ) → Type 0
 Codes n v = (s : ℕ) → Signal n s → Code (v s)
+
+-- codes start as codes
+pub start-code : (n : Network) (given : ℕ → ℕ) → Codes n given → Codes n (start n given)
+unfolding start
+start-code n given h = h
 
 -- a row holds codes for the inputs, and every row of a list does
 abbrev pub InputCodes : Network → (ℕ → ℕ) → Type 0
@@ -234,7 +249,7 @@ module _ (n : Network) (formed : Formed n) (gates : CodeGates n) where
       ]
 
   pub VAL-code : (given : ℕ → ℕ) → Codes n given → {rows : List (ℕ → ℕ)} → CodeRows n rows → Codes n (VAL n given rows)
-  unfolding VAL start next
-  VAL-code given h code-none = h
+  unfolding VAL next
+  VAL-code given h code-none = start-code n given h
   VAL-code given h (code-more {row} {rows} inputs rest) =
       settle-code (driven n row (VAL n given rows)) (driven-code row (VAL n given rows) inputs (VAL-code given h rest)) (suc (n .size))

@@ -21,14 +21,14 @@ fn clear_all(panel: &mut [u8], program: &mut [u8], memory: &mut [u8])
 }
 
 // "A refused opening leaves the working buffers all zero, as far as they were lent to it."
-fn refuse(number: u8, returned: u16, panel: &mut [u8], program: &mut [u8], memory: &mut [u8]) -> u64
+fn refuse(number: u8, returned: u32, panel: &mut [u8], program: &mut [u8], memory: &mut [u8]) -> u64
     ensures { λ r. ⌜ r ≡ answerBits (refused number returned) ⌝ }
     ensures { λ _. ⌜ now (panel .exit) ≡ cleared (length (now (panel .entry))) ⌝ }
     ensures { λ _. ⌜ now (program .exit) ≡ cleared (length (now (program .entry))) ⌝ }
     ensures { λ _. ⌜ now (memory .exit) ≡ cleared (length (now (memory .entry))) ⌝ }
 {
     clear_all(panel, program, memory);
-    session_answers::refusal_bits(number, returned as u32)
+    session_answers::refusal_bits(number, returned)
 }
 
 // Opens a session on three files: 40 comes before all file refusals, and accepted files write every byte of the buffers.
@@ -52,7 +52,7 @@ pub fn open(
         buffers_load::load(net, modfile, stim, panel, program, memory);
         return 0;
     };
-    refuse(number, returned, panel, program, memory)
+    refuse(number, returned as u32, panel, program, memory)
 }
 
 // The check of the three files alone, in the opening's bits: 0 where they are accepted, else the refusal.
