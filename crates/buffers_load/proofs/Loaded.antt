@@ -9,18 +9,19 @@ use lib.ListN.{getD}
 use Rattle.logic.proofs.Listed.{listed-length, listed-at}
 use Rattle.gates.specs.Gate.{gate}
 use Rattle.model.specs.Refusal.{pass}
+use Rattle.model.specs.Files.{Files}
 use Rattle.model.specs.Network.{Network, Signal}
 use Rattle.model.specs.Netlist.{netField, netSize, network, netCheck, codes}
 use Rattle.model.specs.Value.{start}
 use Rattle.model.specs.Module.{Module, At, Laid}
 use Rattle.model.specs.ModuleFile.{modProcessors, modSlots, moduleOf, modCheck}
-use Rattle.model.specs.Stimulus.{held as given}
-use Rattle.model.proofs.Accepted.{net-size, mod-processors, mod-slots, mod-scheduled}
+use Rattle.model.specs.Acceptance.{panelLimit, networkOf, moduleOfFiles, givenOf, Accepted}
+use Rattle.model.proofs.Accepted.{net-accepted, mod-accepted, net-size, mod-processors, mod-slots, mod-scheduled}
 use Rattle.buffers_tables.specs.Panel.{panelLength, signalsIn, slotsIn, finishedIn, watchedIn, maskIn, kindIn, codesIn, handIn, processorIn, slotIn}
 use Rattle.buffers_tables.specs.Program.{programLength, lineIn, signalAt, partAt, locationAt}
 use Rattle.buffers_tables.specs.Tables.{moduleIn, networkIn, Tables}
 use Rattle.buffers_tables.specs.Holding.{SameLines, Holding}
-use Rattle.buffers_load_files.specs.Loaded.{timeZero, placeOf, headBytes, signalBytes, panelByte, panelWith, panelOf, lineBytes, programByte, programOf}
+use Rattle.buffers_load_files.specs.Loaded.{timeZero, placeOf, headBytes, signalBytes, panelByte, panelWith, panelOf, lineBytes, programByte, programFrom, programOf}
 use Rattle.buffers_load_files.specs.Checked.{ModuleChecked}
 use Rattle.buffers_load_program.proofs.Program.{byte-within}
 use Rattle.buffers_load_panel.proofs.Panel.{panel-signal}
@@ -61,8 +62,8 @@ pub record SameSignals (a b : Network) (m : Module) (panel : List ℕ) (zeroth :
 
 -- the bytes of a line
 pub program-byte : (modfile : List ℕ) (p i c x : ℕ) → p < 16 → i < 256 → c < 13 → x ≡ lineIn p i + c
-    → getD (programOf modfile) x 0 ≡ programByte modfile p i c
-unfolding programOf
+    → getD (programFrom modfile) x 0 ≡ programByte modfile p i c
+unfolding programFrom
 program-byte modfile p i c x low-p low-i low-c e =
     let a : x / 13 % 16 ≡ p = omega arith in
     let b : x / 13 / 16 ≡ i = omega arith in
@@ -73,149 +74,161 @@ program-byte modfile p i c x low-p low-i low-c e =
     ∙ ap (λ (y : ℕ). programByte modfile p i y) d
 
 -- the bytes of a signal, and of the session at 0
-pub panel-byte : (net modfile stim : List ℕ) (s c x : ℕ) → s ≤ 4096 → c < 10 → x ≡ 10 * s + c
-    → getD (panelOf net modfile stim) x 0 ≡ panelByte net (modProcessors modfile) (modSlots modfile) (placeOf modfile) (timeZero net stim) s c
+pub panel-byte : (files : Files) (s c x : ℕ) → s ≤ 4096 → c < 10 → x ≡ 10 * s + c
+    → getD (panelOf files) x 0
+    ≡ panelByte (files .NET) (modProcessors (files .MOD)) (modSlots (files .MOD)) (placeOf (files .MOD)) (timeZero files) s c
 unfolding panelOf panelWith
-panel-byte net modfile stim s c x low-s low-c e =
+panel-byte files s c x low-s low-c e =
     let a : x / 10 ≡ s = omega arith in
     let b : x % 10 ≡ c = omega arith in
-    let byte = panelByte net (modProcessors modfile) (modSlots modfile) (placeOf modfile) (timeZero net stim) in
+    let byte = panelByte (files .NET) (modProcessors (files .MOD)) (modSlots (files .MOD)) (placeOf (files .MOD)) (timeZero files) in
     listed-at panelLength (λ y. byte (y / 10) (y % 10)) x (omega arith)
     ∙ ap (λ (y : ℕ). byte y (x % 10)) a
     ∙ ap (λ (y : ℕ). byte s y) b
 
-module _ (net modfile : List ℕ) (n : netCheck 4096 net ≡ pass) (m : modCheck (network net) modfile ≡ pass) where
+module _ (files : Files) (accepted : Accepted panelLimit files) where
+  abbrev net : List ℕ
+  net = files .NET
+
+  abbrev modfile : List ℕ
+  modfile = files .MOD
+
+  n : netCheck 4096 net ≡ pass
+  n = net-accepted panelLimit files accepted
+
+  m : modCheck (networkOf files) modfile ≡ pass
+  m = mod-accepted panelLimit files accepted
+
   -- a byte of a line of the module
-  module _ (p i : ℕ) (a : At (moduleOf modfile) p i) where
-    line-there : (c x : ℕ) → c < 13 → x ≡ lineIn p i + c → getD (programOf modfile) x 0 ≡ getD (lineBytes (moduleOf modfile) p i) c 0
+  module _ (p i : ℕ) (a : At (moduleOfFiles files) p i) where
+    line-there : (c x : ℕ) → c < 13 → x ≡ lineIn p i + c → getD (programOf files) x 0 ≡ getD (lineBytes (moduleOfFiles files) p i) c 0
     unfolding moduleOf
     line-there c x low e =
-        program-byte modfile p i c x (omega (arith, a .processor, mod-processors (network net) modfile m)) (omega (arith, a .slot, mod-slots (network net) modfile m)) low e
+        program-byte modfile p i c x (omega (arith, a .processor, mod-processors (networkOf files) modfile m)) (omega (arith, a .slot, mod-slots (networkOf files) modfile m)) low e
         ∙ byte-within modfile p i c (a .processor) (a .slot)
 
-    signal-there : signalAt (programOf modfile) p i ≡ moduleOf modfile .signal p i
+    signal-there : signalAt (programOf files) p i ≡ moduleOfFiles files .signal p i
     signal-there = omega (arith, line-there 0 (lineIn p i) (omega arith) (omega arith), line-there 1 (lineIn p i + 1) (omega arith) refl)
 
-    part-there : (j : ℕ) → j < 4 → partAt (programOf modfile) p i j ≡ moduleOf modfile .part p i j
+    part-there : (j : ℕ) → j < 4 → partAt (programOf files) p i j ≡ moduleOfFiles files .part p i j
     part-there zero h = line-there 2 _ (omega arith) (omega arith)
     part-there (suc zero) h = line-there 4 _ (omega arith) (omega arith)
     part-there (suc (suc zero)) h = line-there 6 _ (omega arith) (omega arith)
     part-there (suc (suc (suc zero))) h = line-there 8 _ (omega arith) (omega arith)
     part-there (suc (suc (suc (suc j)))) h = absurd (omega arith)
 
-    location-there : (j : ℕ) → j < 4 → locationAt (programOf modfile) p i j ≡ moduleOf modfile .location p i j
+    location-there : (j : ℕ) → j < 4 → locationAt (programOf files) p i j ≡ moduleOfFiles files .location p i j
     location-there zero h = line-there 3 _ (omega arith) (omega arith)
     location-there (suc zero) h = line-there 5 _ (omega arith) (omega arith)
     location-there (suc (suc zero)) h = line-there 7 _ (omega arith) (omega arith)
     location-there (suc (suc (suc zero))) h = line-there 9 _ (omega arith) (omega arith)
     location-there (suc (suc (suc (suc j)))) h = absurd (omega arith)
 
-  module _ (stim : List ℕ) where
-    -- a byte of the session
-    head-there : (c : ℕ) → c < 10
-        → getD (panelOf net modfile stim) c 0 ≡ getD (headBytes (netSize net) (modProcessors modfile) (modSlots modfile)) c 0
-    unfolding panelByte
-    head-there c h = panel-byte net modfile stim 0 c c (omega arith) h (omega arith)
+  -- a byte of the session
+  head-there : (c : ℕ) → c < 10
+      → getD (panelOf files) c 0 ≡ getD (headBytes (netSize net) (modProcessors modfile) (modSlots modfile)) c 0
+  unfolding panelByte
+  head-there c h = panel-byte files 0 c c (omega arith) h (omega arith)
 
-    size-there : signalsIn (panelOf net modfile stim) ≡ netSize net
-    size-there = omega (arith, head-there 0 (omega arith), head-there 1 (omega arith))
+  size-there : signalsIn (panelOf files) ≡ netSize net
+  size-there = omega (arith, head-there 0 (omega arith), head-there 1 (omega arith))
 
-    slots-there : slotsIn (panelOf net modfile stim) ≡ modSlots modfile
-    slots-there = omega (arith, head-there 3 (omega arith), head-there 4 (omega arith))
+  slots-there : slotsIn (panelOf files) ≡ modSlots modfile
+  slots-there = omega (arith, head-there 3 (omega arith), head-there 4 (omega arith))
 
-    pub loaded-module : SameLines (moduleIn (panelOf net modfile stim) (programOf modfile)) (moduleOf modfile)
-    unfolding moduleIn moduleOf
-    loaded-module =
-        record {
-          processors = head-there 2 (omega arith);
-          slots = slots-there;
-          signals = λ p i a. signal-there p i a;
-          parts = λ p i j a h. part-there p i a j h;
-          locations = λ p i j a h. location-there p i a j h;
-          send-parts = λ p i a. line-there p i a 10 _ (omega arith) (omega arith);
-          send-locations = λ p i a. line-there p i a 11 _ (omega arith) (omega arith);
-          senders = λ p i a. line-there p i a 12 _ (omega arith) (omega arith);
-        }
+  pub loaded-module : SameLines (moduleIn (panelOf files) (programOf files)) (moduleOfFiles files)
+  unfolding moduleIn moduleOf
+  loaded-module =
+      record {
+        processors = head-there 2 (omega arith);
+        slots = slots-there;
+        signals = λ p i a. signal-there p i a;
+        parts = λ p i j a h. part-there p i a j h;
+        locations = λ p i j a h. location-there p i a j h;
+        send-parts = λ p i a. line-there p i a 10 _ (omega arith) (omega arith);
+        send-locations = λ p i a. line-there p i a 11 _ (omega arith) (omega arith);
+        senders = λ p i a. line-there p i a 12 _ (omega arith) (omega arith);
+      }
 
-    -- a byte of a signal
-    module _ (s : ℕ) (g : Signal (network net) s) where
-      pub signal-byte : (c x : ℕ) → c < 10 → x ≡ 10 * s + c
-          → getD (panelOf net modfile stim) x 0
-          ≡ getD (signalBytes net s (timeZero net stim s) (placeOf modfile s / modSlots modfile) (placeOf modfile s % modSlots modfile)) c 0
-      unfolding network
-      signal-byte c x low e =
-          panel-byte net modfile stim s c x (omega (arith, g .high, net-size 4096 net n)) low e
-          ∙ panel-signal net (modProcessors modfile) (modSlots modfile) (placeOf modfile) (timeZero net stim) c s (λ (z : s ≡ 0). omega (arith, g .low)) (g .high)
+  -- a byte of a signal
+  module _ (s : ℕ) (g : Signal (networkOf files) s) where
+    pub signal-byte : (c x : ℕ) → c < 10 → x ≡ 10 * s + c
+        → getD (panelOf files) x 0
+        ≡ getD (signalBytes net s (timeZero files s) (placeOf modfile s / modSlots modfile) (placeOf modfile s % modSlots modfile)) c 0
+    unfolding network
+    signal-byte c x low e =
+        panel-byte files s c x (omega (arith, g .high, net-size 4096 net n)) low e
+        ∙ panel-signal net (modProcessors modfile) (modSlots modfile) (placeOf modfile) (timeZero files) c s (λ (z : s ≡ 0). omega (arith, g .low)) (g .high)
 
-      kind-there : kindIn (panelOf net modfile stim) s ≡ netField net s 0
-      kind-there = signal-byte 0 (10 * s) (omega arith) (omega arith)
+    kind-there : kindIn (panelOf files) s ≡ netField net s 0
+    kind-there = signal-byte 0 (10 * s) (omega arith) (omega arith)
 
-      codes-there : codesIn (panelOf net modfile stim) s ≡ codes net s
-      codes-there =
-          cc (
-            signal-byte 1 (10 * s + 1) (omega arith) refl,
-            signal-byte 2 (10 * s + 2) (omega arith) refl,
-            signal-byte 3 (10 * s + 3) (omega arith) refl,
-            signal-byte 4 (10 * s + 4) (omega arith) refl,
-            signal-byte 5 (10 * s + 5) (omega arith) refl,
-            signal-byte 6 (10 * s + 6) (omega arith) refl,
-          )
+    codes-there : codesIn (panelOf files) s ≡ codes net s
+    codes-there =
+        cc (
+          signal-byte 1 (10 * s + 1) (omega arith) refl,
+          signal-byte 2 (10 * s + 2) (omega arith) refl,
+          signal-byte 3 (10 * s + 3) (omega arith) refl,
+          signal-byte 4 (10 * s + 4) (omega arith) refl,
+          signal-byte 5 (10 * s + 5) (omega arith) refl,
+          signal-byte 6 (10 * s + 6) (omega arith) refl,
+        )
 
-      hand-there : handIn (panelOf net modfile stim) s ≡ start (network net) (given stim 0) s
-      unfolding network
-      hand-there = signal-byte 7 (10 * s + 7) (omega arith) refl ∙ zeroth-is net stim s (g .low) (g .high)
+    hand-there : handIn (panelOf files) s ≡ start (networkOf files) (givenOf files) s
+    unfolding network
+    hand-there = signal-byte 7 (10 * s + 7) (omega arith) refl ∙ zeroth-is files s (g .low) (g .high)
 
-      processor-there : processorIn (panelOf net modfile stim) s ≡ placeOf modfile s / modSlots modfile
-      processor-there = signal-byte 8 (10 * s + 8) (omega arith) refl
+    processor-there : processorIn (panelOf files) s ≡ placeOf modfile s / modSlots modfile
+    processor-there = signal-byte 8 (10 * s + 8) (omega arith) refl
 
-      slot-there : slotIn (panelOf net modfile stim) s ≡ placeOf modfile s % modSlots modfile
-      slot-there = signal-byte 9 (10 * s + 9) (omega arith) refl
+    slot-there : slotIn (panelOf files) s ≡ placeOf modfile s % modSlots modfile
+    slot-there = signal-byte 9 (10 * s + 9) (omega arith) refl
 
-    pub loaded-network : SameSignals (networkIn (panelOf net modfile stim) (programOf modfile)) (network net) (moduleOf modfile)
-        (panelOf net modfile stim) (start (network net) (given stim 0))
-    unfolding networkIn network
-    loaded-network =
-        record {
-          size = size-there;
-          kinds = kind-there;
-          gates = λ s g. ap gate (codes-there s g);
-          hands = hand-there;
-          placed = λ s g. rw (processor-there s g, slot-there s g) (place-there fits s);
-          places = λ s g.
-              rw (processor-there s g, slot-there s g)
-              (place-has fits s (mod-scheduled (network net) modfile m .places s g));
-        }
-      where
-        fits : ModuleChecked modfile
-        fits = schedules net modfile n m
+  pub loaded-network : SameSignals (networkIn (panelOf files) (programOf files)) (networkOf files) (moduleOfFiles files)
+      (panelOf files) (start (networkOf files) (givenOf files))
+  unfolding networkIn network
+  loaded-network =
+      record {
+        size = size-there;
+        kinds = kind-there;
+        gates = λ s g. ap gate (codes-there s g);
+        hands = hand-there;
+        placed = λ s g. rw (processor-there s g, slot-there s g) (place-there fits s);
+        places = λ s g.
+            rw (processor-there s g, slot-there s g)
+            (place-has fits s (mod-scheduled (networkOf files) modfile m .places s g));
+      }
+    where
+      fits : ModuleChecked modfile
+      fits = schedules net modfile n m
 
-    -- what the machine needs of the tables
-    pub loaded-tables : Tables (panelOf net modfile stim) (programOf modfile)
-    unfolding panelOf panelWith programOf
-    loaded-tables =
-        record {
-          panel-size = listed-length panelLength _;
-          program-size = listed-length programLength _;
-          signals-high = omega (arith, size-there, net-size 4096 net n);
-          processors-high = omega (arith, head-there 2 (omega arith), mod-processors (network net) modfile m);
-          slots-high = omega (arith, slots-there, mod-slots (network net) modfile m);
-          laid = same-laid loaded-module (loaded-network .size) (mod-scheduled (network net) modfile m .laid);
-        }
+  -- what the machine needs of the tables
+  pub loaded-tables : Tables (panelOf files) (programOf files)
+  unfolding panelOf panelWith programFrom
+  loaded-tables =
+      record {
+        panel-size = listed-length panelLength _;
+        program-size = listed-length programLength _;
+        signals-high = omega (arith, size-there, net-size 4096 net n);
+        processors-high = omega (arith, head-there 2 (omega arith), mod-processors (networkOf files) modfile m);
+        slots-high = omega (arith, slots-there, mod-slots (networkOf files) modfile m);
+        laid = same-laid loaded-module (loaded-network .size) (mod-scheduled (networkOf files) modfile m .laid);
+      }
 
-    -- the tables hold the files' network and module
-    pub loaded-holding : Holding (network net) (moduleOf modfile) (panelOf net modfile stim) (programOf modfile)
-    loaded-holding =
-        let same = loaded-network in
-        record {
-          lines = loaded-module;
-          signals = record { size = same .size; kinds = same .kinds; gates = same .gates };
-          places = λ s g. record { at = same .placed s g; is = same .places s g };
-        }
+  -- the tables hold the files' network and module
+  pub loaded-holding : Holding (networkOf files) (moduleOfFiles files) (panelOf files) (programOf files)
+  loaded-holding =
+      let same = loaded-network in
+      record {
+        lines = loaded-module;
+        signals = record { size = same .size; kinds = same .kinds; gates = same .gates };
+        places = λ s g. record { at = same .placed s g; is = same .places s g };
+      }
 
-    -- the session is fresh: "with 0 cycles finished", "watch signal 1, mask 0"
-    pub loaded-head : (finishedIn (panelOf net modfile stim) ≡ 0) × (watchedIn (panelOf net modfile stim) ≡ 1) × (maskIn (panelOf net modfile stim) ≡ 0)
-    loaded-head = (
-      omega (arith, head-there 5 (omega arith), head-there 6 (omega arith)),
-      omega (arith, head-there 7 (omega arith), head-there 8 (omega arith)),
-      head-there 9 (omega arith),
-    )
+  -- the session is fresh: "with 0 cycles finished", "watch signal 1, mask 0"
+  pub loaded-head : (finishedIn (panelOf files) ≡ 0) × (watchedIn (panelOf files) ≡ 1) × (maskIn (panelOf files) ≡ 0)
+  loaded-head = (
+    omega (arith, head-there 5 (omega arith), head-there 6 (omega arith)),
+    omega (arith, head-there 7 (omega arith), head-there 8 (omega arith)),
+    head-there 9 (omega arith),
+  )

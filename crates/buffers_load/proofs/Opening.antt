@@ -11,18 +11,19 @@ use Rattle.logic.specs.Test.{_and_}
 use Rattle.logic.specs.Listed.{listed}
 use Rattle.logic.proofs.Listed.{listed-length}
 use Rattle.model.specs.Refusal.{pass}
+use Rattle.model.specs.Files.{Files}
 use Rattle.model.specs.Network.{isSignal}
 use Rattle.model.specs.Netlist.{netSize, network, netCheck}
 use Rattle.model.specs.Value.{valueOf, start}
 use Rattle.model.specs.Module.{noSender}
 use Rattle.model.specs.ModuleFile.{modField, modIndex, modProcessors, modSlots, moduleOf, modCheck}
-use Rattle.model.specs.Stimulus.{held as given}
+use Rattle.model.specs.Acceptance.{networkOf, givenOf}
 use Rattle.model.proofs.Accepted.{mod-slot}
 use Rattle.buffers_memory.specs.Memory.{memoryLength, within, written}
 use Rattle.buffers_memory.proofs.Written.{Place}
 use Rattle.buffers_memory.proofs.Within.{within-true}
 use Rattle.buffers_tables.specs.Panel.{panelLength}
-use Rattle.buffers_load_files.specs.Loaded.{timeZero, placeOf, panelWith, panelOf, openingWith, openingBytes}
+use Rattle.buffers_load_files.specs.Loaded.{timeZeroFrom, timeZero, placeOf, panelWith, panelOf, openingWith, openingBytes}
 use Rattle.buffers_load_files.specs.Checked.{ModuleChecked, valueIn}
 use Rattle.buffers_load_memory.specs.Bytes.{sentValue, openingByte}
 use Rattle.buffers_load_files.proofs.Fields.{schedules, is-at}
@@ -31,55 +32,61 @@ use Rattle.buffers_load_panel.proofs.Panel.{panel-same}
 use Rattle.buffers_load_memory.proofs.Memory.{place-there, byte-outside, byte-local, byte-sent-earlier, byte-sent-present, byte-other, nothing-sent, something-sent, sender-below, location-below}
 
 -- the time 0 value of a signal, and of none
-module _ (net stim : List ℕ) where
-  zero-is : timeZero net stim 0 ≡ 0
-  unfolding timeZero isSignal _and_
+module _ (files : Files) where
+  zero-is : timeZero files 0 ≡ 0
+  unfolding timeZeroFrom isSignal _and_
   zero-is = refl
 
-  pub zeroth-is : (s : ℕ) → 1 ≤ s → s ≤ netSize net → timeZero net stim s ≡ start (network net) (given stim 0) s
-  unfolding timeZero isSignal _and_ network
-  zeroth-is s l h = rw (le-leb 1 s l, le-leb s (netSize net) h)
+  pub zeroth-is : (s : ℕ) → 1 ≤ s → s ≤ netSize (files .NET) → timeZero files s ≡ start (networkOf files) (givenOf files) s
+  unfolding timeZeroFrom isSignal _and_ network
+  zeroth-is s l h = rw (le-leb 1 s l, le-leb s (netSize (files .NET)) h)
 
 -- the array of the time 0 values
-module _ (net stim values : List ℕ) (e : values ≡ listed 4097 (timeZero net stim)) where
+module _ (files : Files) (values : List ℕ) (e : values ≡ listed 4097 (timeZero files)) where
+  abbrev net : List ℕ
+  net = files .NET
+
+  abbrev modfile : List ℕ
+  modfile = files .MOD
+
   pub values-size : length values ≡ 4097
   values-size = ap length e ∙ listed-length 4097 _
 
   pub values-none : getD values 0 0 ≡ 0
-  values-none = array-at (timeZero net stim) values e 0 (omega arith) ∙ zero-is net stim
+  values-none = array-at (timeZero files) values e 0 (omega arith) ∙ zero-is files
 
-  module _ (accepted : netCheck 4096 net ≡ pass) (modfile : List ℕ) where
-    pub panel-zeroth : panelWith net modfile (valueIn values) ≡ panelOf net modfile stim
+  module _ (accepted : netCheck 4096 net ≡ pass) where
+    pub panel-zeroth : panelWith net modfile (valueIn values) ≡ panelOf files
     unfolding panelOf panelWith
     panel-zeroth =
         listed-same panelLength _ _
-        (λ a b. panel-same net (modProcessors modfile) (modSlots modfile) (placeOf modfile) (valueIn values) (a % 10) (placeOf modfile) (timeZero net stim)
-        (λ s l h. refl) (λ s l h. array-at (timeZero net stim) values e s (in-array net accepted s h)) (a / 10))
+        (λ a b. panel-same net (modProcessors modfile) (modSlots modfile) (placeOf modfile) (valueIn values) (a % 10) (placeOf modfile) (timeZero files)
+        (λ s l h. refl) (λ s l h. array-at (timeZero files) values e s (in-array net accepted s h)) (a / 10))
 
-    value-same : (s : ℕ) → s ≤ netSize net → valueOf (valueIn values) s ≡ valueOf (start (network net) (given stim 0)) s
+    value-same : (s : ℕ) → s ≤ netSize net → valueOf (valueIn values) s ≡ valueOf (start (networkOf files) (givenOf files)) s
     value-same zero h = refl
     value-same (suc s) h =
-        array-at (timeZero net stim) values e (suc s) (in-array net accepted (suc s) h) ∙ zeroth-is net stim (suc s) (omega arith) h
+        array-at (timeZero files) values e (suc s) (in-array net accepted (suc s) h) ∙ zeroth-is files (suc s) (omega arith) h
 
-    module _ (m : modCheck (network net) modfile ≡ pass) where
+    module _ (m : modCheck (networkOf files) modfile ≡ pass) where
       abbrev fits : ModuleChecked modfile
       fits = schedules net modfile accepted m
 
       local-same : (p k : ℕ) → p < modProcessors modfile → k < modSlots modfile
-          → valueOf (valueIn values) (moduleOf modfile .signal p k) ≡ valueOf (start (network net) (given stim 0)) (moduleOf modfile .signal p k)
+          → valueOf (valueIn values) (moduleOf modfile .signal p k) ≡ valueOf (start (networkOf files) (givenOf files)) (moduleOf modfile .signal p k)
       unfolding network
       local-same p k low-p low-k =
-          value-same (moduleOf modfile .signal p k) (mod-slot (network net) modfile m p k (is-at fits low-p low-k) .signal)
+          value-same (moduleOf modfile .signal p k) (mod-slot (networkOf files) modfile m p k (is-at fits low-p low-k) .signal)
 
       sent-same : (p k : ℕ) → p < modProcessors modfile → k < modSlots modfile
-          → sentValue (moduleOf modfile) (valueIn values) p k ≡ sentValue (moduleOf modfile) (start (network net) (given stim 0)) p k
+          → sentValue (moduleOf modfile) (valueIn values) p k ≡ sentValue (moduleOf modfile) (start (networkOf files) (givenOf files)) p k
       sent-same p k low-p low-k = go (ℕ-discrete sender noSender)
         where
           sender : ℕ
           sender = modField modfile (modIndex modfile p k) 13
 
           go : Dec (sender ≡ noSender)
-              → sentValue (moduleOf modfile) (valueIn values) p k ≡ sentValue (moduleOf modfile) (start (network net) (given stim 0)) p k
+              → sentValue (moduleOf modfile) (valueIn values) p k ≡ sentValue (moduleOf modfile) (start (networkOf files) (givenOf files)) p k
           go (yes q) = nothing-sent modfile _ p k sender refl q ∙ sym (nothing-sent modfile _ p k sender refl q)
           go (no d) =
               let low : sender < modProcessors modfile = sender-below fits refl low-p low-k d in
@@ -89,7 +96,7 @@ module _ (net stim values : List ℕ) (e : values ≡ listed 4097 (timeZero net 
 
       byte-same : (a : ℕ) → a < memoryLength
           → openingByte modfile (valueIn values) (a / 1280) (a % 1280 / 256) (a % 256)
-          ≡ openingByte modfile (start (network net) (given stim 0)) (a / 1280) (a % 1280 / 256) (a % 256)
+          ≡ openingByte modfile (start (networkOf files) (givenOf files)) (a / 1280) (a % 1280 / 256) (a % 256)
       byte-same a b = go (within (modProcessors modfile) (modSlots modfile) (a / 1280) (a % 256)) refl
         where
           there : Place (a / 1280) (a % 1280 / 256) (a % 256)
@@ -97,7 +104,7 @@ module _ (net stim values : List ℕ) (e : values ≡ listed 4097 (timeZero net 
 
           go : (w : Bool) → within (modProcessors modfile) (modSlots modfile) (a / 1280) (a % 256) ≡ w
               → openingByte modfile (valueIn values) (a / 1280) (a % 1280 / 256) (a % 256)
-              ≡ openingByte modfile (start (network net) (given stim 0)) (a / 1280) (a % 1280 / 256) (a % 256)
+              ≡ openingByte modfile (start (networkOf files) (givenOf files)) (a / 1280) (a % 1280 / 256) (a % 256)
           go false w = byte-outside modfile _ there w ∙ sym (byte-outside modfile _ there w)
           go true w =
               parts (ℕ-discrete (a % 1280 / 256) 0) (ℕ-discrete (a % 1280 / 256) 2) (ℕ-discrete (a % 1280 / 256) 3)
@@ -110,7 +117,7 @@ module _ (net stim values : List ℕ) (e : values ≡ listed 4097 (timeZero net 
 
               parts : Dec (a % 1280 / 256 ≡ 0) → Dec (a % 1280 / 256 ≡ 2) → Dec (a % 1280 / 256 ≡ 3)
                   → openingByte modfile (valueIn values) (a / 1280) (a % 1280 / 256) (a % 256)
-                  ≡ openingByte modfile (start (network net) (given stim 0)) (a / 1280) (a % 1280 / 256) (a % 256)
+                  ≡ openingByte modfile (start (networkOf files) (givenOf files)) (a / 1280) (a % 1280 / 256) (a % 256)
               parts (yes q) y z = byte-local modfile _ there w q ∙ local-same _ _ low-p low-k ∙ sym (byte-local modfile _ there w q)
               parts (no x) (yes q) z =
                   byte-sent-earlier modfile _ there w q ∙ sent-same _ _ low-p low-k ∙ sym (byte-sent-earlier modfile _ there w q)
@@ -118,6 +125,6 @@ module _ (net stim values : List ℕ) (e : values ≡ listed 4097 (timeZero net 
                   byte-sent-present modfile _ there w q ∙ sent-same _ _ low-p low-k ∙ sym (byte-sent-present modfile _ there w q)
               parts (no x) (no y) (no z) = byte-other modfile _ there w x y z ∙ sym (byte-other modfile _ there w x y z)
 
-      pub opening-zeroth : openingWith modfile (valueIn values) ≡ openingBytes net modfile stim
+      pub opening-zeroth : openingWith modfile (valueIn values) ≡ openingBytes files
       unfolding openingBytes written
       opening-zeroth = listed-same memoryLength _ _ byte-same

@@ -4,6 +4,7 @@ ghost use mathlib.Core.Path.{_≡_};
 ghost use lib.ListN.{length};
 ghost use Rattle.logic.specs.Listed.{listed};
 ghost use Rattle.model.specs.Refusal.{pass};
+ghost use Rattle.model.specs.Files.{filesOf};
 ghost use Rattle.model.specs.Netlist.{network, netCheck};
 ghost use Rattle.model.specs.Stimulus.{stimCheck};
 ghost use Rattle.model.specs.ModuleFile.{modCheck};
@@ -36,9 +37,9 @@ pub fn load(
     requires { ⌜ modCheck (network (now net)) (now modfile) ≡ pass ⌝ }
     requires { ⌜ stimCheck (network (now net)) (now stim) ≡ pass ⌝ }
     requires { ⌜ (length (now panel) ≡ panelLength) × (length (now program) ≡ programLength) × (length (now memory) ≡ memoryLength) ⌝ }
-    ensures { λ _. ⌜ now (panel .exit) ≡ panelOf (now (net .entry)) (now (modfile .entry)) (now (stim .entry)) ⌝ }
-    ensures { λ _. ⌜ now (program .exit) ≡ programOf (now (modfile .entry)) ⌝ }
-    ensures { λ _. ⌜ now (memory .exit) ≡ openingBytes (now (net .entry)) (now (modfile .entry)) (now (stim .entry)) ⌝ }
+    ensures { λ _. ⌜ now (panel .exit) ≡ panelOf (filesOf (now (net .entry)) (now (modfile .entry)) (now (stim .entry))) ⌝ }
+    ensures { λ _. ⌜ now (program .exit) ≡ programOf (filesOf (now (net .entry)) (now (modfile .entry)) (now (stim .entry))) ⌝ }
+    ensures { λ _. ⌜ now (memory .exit) ≡ openingBytes (filesOf (now (net .entry)) (now (modfile .entry)) (now (stim .entry))) ⌝ }
 {
     let mut values = [0u8; 4097];
     buffers_load_values::load_values(net, stim, &mut values);

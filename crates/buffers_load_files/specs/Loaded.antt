@@ -1,11 +1,13 @@
 -- What an accepted opening writes: every byte of the three buffers, by the files (01, Session: "It opens when the three files are
--- accepted, with 0 cycles finished and STIM's time 0 values").
+-- accepted, with 0 cycles finished and STIM's time 0 values"). `timeZero`, `panelOf`, `programOf` and `openingBytes` are over the files; their
+-- inner definitions, with `From` or `With` in the name, are over the bytes that a function of loading is lent.
 use Prim.Native.Nat.{ℕ, zero, suc, _*_, _/_, _%_}
 use mathlib.Core.List.{List, [], _∷_}
 use lib.Dec.{eqb, leb}
 use lib.ListN.{getD}
 use Rattle.logic.specs.Choice.{if_then_else_}
 use Rattle.logic.specs.Listed.{listed}
+use Rattle.model.specs.Files.{Files}
 use Rattle.model.specs.Network.{isSignal}
 use Rattle.model.specs.Netlist.{netSize, netField, network}
 use Rattle.model.specs.Value.{start}
@@ -13,13 +15,17 @@ use Rattle.model.specs.Module.{Module}
 use Rattle.model.specs.Machine.{opening}
 use Rattle.model.specs.ModuleFile.{modProcessors, modSlots, moduleOf}
 use Rattle.model.specs.Stimulus.{held as given}
+use Rattle.model.specs.Acceptance.{networkOf, givenOf}
 use Rattle.buffers_memory.specs.Memory.{memoryLength, within, withMemory}
 use Rattle.buffers_tables.specs.Panel.{panelLength}
 use Rattle.buffers_tables.specs.Program.{programLength}
 
--- the value of signal s at time 0, and 0 for what is no signal
-unfoldable pub timeZero : List ℕ → List ℕ → ℕ → ℕ
-timeZero net stim s = if isSignal (network net) s then start (network net) (given stim 0) s else 0
+-- the value of signal s at time 0, by NET and STIM, and 0 for what is no signal
+unfoldable pub timeZeroFrom : List ℕ → List ℕ → ℕ → ℕ
+timeZeroFrom net stim s = if isSignal (network net) s then start (network net) (given stim 0) s else 0
+
+abbrev pub timeZero : Files → ℕ → ℕ
+timeZero files = timeZeroFrom (files .NET) (files .STIM)
 
 -- the last of the first lines of MOD, counted from 0 after line 1, that has signal s. In an accepted module it is the only one.
 unfoldable pub placeBelow : Module → ℕ → ℕ → ℕ
@@ -64,8 +70,8 @@ unfoldable pub panelWith : List ℕ → List ℕ → (ℕ → ℕ) → List ℕ
 panelWith net modfile hand =
     listed panelLength (λ a. panelByte net (modProcessors modfile) (modSlots modfile) (placeOf modfile) hand (a / 10) (a % 10))
 
-unfoldable pub panelOf : List ℕ → List ℕ → List ℕ → List ℕ
-panelOf net modfile stim = panelWith net modfile (timeZero net stim)
+unfoldable pub panelOf : Files → List ℕ
+panelOf files = panelWith (files .NET) (files .MOD) (timeZero files)
 
 -- the 13 bytes of processor p and slot i: its signal, the pairs of its operands and of its send, the processor received from
 abbrev pub lineBytes : Module → ℕ → ℕ → List ℕ
@@ -84,12 +90,15 @@ unfoldable pub programByte : List ℕ → ℕ → ℕ → ℕ → ℕ
 programByte modfile p i column =
     if within (modProcessors modfile) (modSlots modfile) p i then getD (lineBytes (moduleOf modfile) p i) column 0 else 0
 
-unfoldable pub programOf : List ℕ → List ℕ
-programOf modfile = listed programLength (λ a. programByte modfile (a / 13 % 16) (a / 13 / 16) (a % 13))
+unfoldable pub programFrom : List ℕ → List ℕ
+programFrom modfile = listed programLength (λ a. programByte modfile (a / 13 % 16) (a / 13 / 16) (a % 13))
+
+abbrev pub programOf : Files → List ℕ
+programOf files = programFrom (files .MOD)
 
 -- "Before cycle 1 ..": the module's locations hold the opening memory of given time 0 values, all other bytes 0
 abbrev pub openingWith : List ℕ → (ℕ → ℕ) → List ℕ
 openingWith modfile zeroth = withMemory (modProcessors modfile) (modSlots modfile) (opening (moduleOf modfile) zeroth) (listed memoryLength (λ a. 0))
 
-unfoldable pub openingBytes : List ℕ → List ℕ → List ℕ → List ℕ
-openingBytes net modfile stim = openingWith modfile (start (network net) (given stim 0))
+unfoldable pub openingBytes : Files → List ℕ
+openingBytes files = openingWith (files .MOD) (start (networkOf files) (givenOf files))

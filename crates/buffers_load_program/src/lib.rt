@@ -5,7 +5,7 @@ ghost use Prim.Native.Nat.{_/_, _%_, _<_};
 ghost use lib.ListN.{length, getD};
 ghost use Rattle.model.specs.ModuleFile.{modProcessors, modSlots, moduleOf};
 ghost use Rattle.buffers_tables.specs.Program.{programLength};
-ghost use Rattle.buffers_load_files.specs.Loaded.{lineBytes, programByte, programOf};
+ghost use Rattle.buffers_load_files.specs.Loaded.{lineBytes, programByte, programFrom};
 ghost use Rattle.buffers_load_files.specs.Checked.{ModuleChecked};
 
 // One of the 13 bytes of a processor and a slot: the signal takes two, and every other number is below 256.
@@ -44,7 +44,7 @@ fn program_byte(modfile: &[u8], processors: usize, slots: usize, a: usize) -> u8
 pub fn load_program(modfile: &[u8], program: &mut [u8])
     requires { ⌜ ModuleChecked (now modfile) ⌝ }
     requires { ⌜ length (now program) ≡ programLength ⌝ }
-    ensures { λ _. ⌜ now (program .exit) ≡ programOf (now (modfile .entry)) ⌝ }
+    ensures { λ _. ⌜ now (program .exit) ≡ programFrom (now (modfile .entry)) ⌝ }
 {
     let processors = buffers_load_files::processors_of(modfile);
     let slots = buffers_load_files::slots_of(modfile);

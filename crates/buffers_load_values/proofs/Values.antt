@@ -22,7 +22,7 @@ use Rattle.model.proofs.Accepted.{stim-right, net-size}
 use Rattle.file_stim.specs.declared.Cursor.{Cursor}
 use Rattle.file_stim.proofs.Steps.{GivenAt}
 use Rattle.file_stim.proofs.Passed.{nothing-later}
-use Rattle.buffers_load_files.specs.Loaded.{timeZero}
+use Rattle.buffers_load_files.specs.Loaded.{timeZeroFrom}
 use Rattle.buffers_load_values.specs.Values.{undefinedTo, givenBelow}
 
 module _ (signals s : ℕ) where
@@ -109,10 +109,10 @@ module _ (net stim : List ℕ) where
           at s b (no d) = getD-set-other values signal s value 0 d ∙ so-far .given s b ∙ elsewhere s d
 
     pub given-ends : {line : ℕ} {values : List ℕ} → GivenTo net stim line values → (line < stimCount stim → 0 < stimTime stim line)
-        → values ≡ listed 4097 (timeZero net stim)
-    unfolding givenBelow timeZero start held
+        → values ≡ listed 4097 (timeZeroFrom net stim)
+    unfolding givenBelow timeZeroFrom start held
     given-ends {line} {values} so-far later =
         is-listed values 4097 _ (so-far .size) (λ s b. so-far .given s b ∙ same s)
       where
-        same : (s : ℕ) → givenBelow net stim line s ≡ timeZero net stim s
+        same : (s : ℕ) → givenBelow net stim line s ≡ timeZeroFrom net stim s
         same s = rw (nothing-later (network net) stim passes 0 line later s (stimCount stim) (so-far .low) (omega arith))

@@ -1,5 +1,5 @@
 -- The time 0 values on the way: what the code has before it reads STIM, and after some of its lines. They mirror private functions:
--- `timeZero` is what a caller reads.
+-- `timeZeroFrom` is what a caller reads.
 use Prim.Native.Nat.{ℕ}
 use mathlib.Core.List.{List}
 use lib.Dec.{leb}

@@ -6,7 +6,7 @@ ghost use Rattle.logic.specs.Listed.{listed};
 ghost use Rattle.model.specs.Refusal.{pass};
 ghost use Rattle.model.specs.Netlist.{network, netCheck};
 ghost use Rattle.model.specs.Stimulus.{stimCheck};
-ghost use Rattle.buffers_load_files.specs.Loaded.{timeZero};
+ghost use Rattle.buffers_load_files.specs.Loaded.{timeZeroFrom};
 ghost use Rattle.buffers_load_values.specs.Values.{undefinedTo};
 use file_stim::Cursor;
 use file_stim::Step;
@@ -40,7 +40,7 @@ pub fn load_values(net: &[u8], stim: &[u8], values: &mut [u8])
     requires { ⌜ netCheck 4096 (now net) ≡ pass ⌝ }
     requires { ⌜ stimCheck (network (now net)) (now stim) ≡ pass ⌝ }
     requires { ⌜ length (now values) ≡ 4097 ⌝ }
-    ensures { λ _. ⌜ now (values .exit) ≡ listed 4097 (timeZero (now (net .entry)) (now (stim .entry))) ⌝ }
+    ensures { λ _. ⌜ now (values .exit) ≡ listed 4097 (timeZeroFrom (now (net .entry)) (now (stim .entry))) ⌝ }
 {
     mark_undefined(buffers_load_files::signals_of(net), values);
     let mut cursor = Cursor { line: 0 };

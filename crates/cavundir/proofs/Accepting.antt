@@ -7,6 +7,7 @@ use native.Mathlib.Omega.{arith}
 use denote.Enum.Declared.{tagOf}
 use types.Run.{OneOf}
 use Rattle.model.specs.Refusal.{pass}
+use Rattle.model.specs.Files.{filesOf}
 use Rattle.model.specs.Netlist.{network, netCheck}
 use Rattle.model.specs.ModuleFile.{modCheck}
 use Rattle.model.specs.Stimulus.{stimCount}
@@ -23,7 +24,7 @@ use Rattle.file_stim.proofs.Steps.{accepted-passes}
 
 pub all-accepted : (net modfile stim : List ℕ) → netCheck 4096 net ≡ pass → modCheck (network net) modfile ≡ pass
     → (r : StimAnswer) (lines : ℕ) → r ≡ Counted lines → Answers (network net) stim r
-    → Accepted panelLimit (record { NET = net; MOD = modfile; STIM = stim }) × (lines ≡ stimCount stim)
+    → Accepted panelLimit (filesOf net modfile stim) × (lines ≡ stimCount stim)
 unfolding fileCheck
 all-accepted net modfile stim n m r lines e answers =
     let told = accepted-passes (network net) stim lines (subst (λ (x : StimAnswer). Answers (network net) stim x) e answers) in

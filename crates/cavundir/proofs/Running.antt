@@ -11,7 +11,7 @@ use denote.Ref.{now}
 use denote.Triple.Clauses.{AtExit}
 use borrow.Fn.Kinds.{Dens, resT, endedOf}
 use Rattle.model.specs.Refusal.{Check, pass, fail}
-use Rattle.model.specs.Files.{Files}
+use Rattle.model.specs.Files.{Files, filesOf}
 use Rattle.model.specs.Netlist.{network, netCheck}
 use Rattle.model.specs.ModuleFile.{modCheck}
 use Rattle.model.specs.Acceptance.{panelLimit, networkOf, fileCheck}
@@ -19,7 +19,7 @@ use Rattle.model.specs.Listing.{joined, printed}
 use Rattle.model.proofs.Refusals.{first-stays, first-second}
 use Rattle.model.proofs.Demands.{joined-same}
 use Rattle.laws_listing.specs.Reading.{firstBytes}
-use Rattle.listing_print.specs.Handing.{filesOf, partFor, partAt, countFor, partCount, Handing}
+use Rattle.listing_print.specs.Handing.{partFor, partAt, countFor, partCount, Handing}
 use Rattle.cavundir.specs.Output.{ReadFrom}
 use Rattle.cavundir.proofs.Handed.{handed-printed, handed-begins}
 use Rattle.cavundir.proofs.run.Kinds.{ps as run-ps, r as run-r}

@@ -1,6 +1,7 @@
 // Every function that C calls (include/cavundir.h). Each hands its arguments to a library below, and its contract is that one's.
 
 ghost use mathlib.Core.Path.{_≡_};
+ghost use Rattle.model.specs.Files.{filesOf};
 ghost use Rattle.model.specs.Acceptance.{panelLimit, fileCheck};
 ghost use Rattle.model.specs.Session.{set as setting, watch as watching, read as reading, run as running};
 ghost use Rattle.buffers_load_files.specs.Loaded.{panelOf, programOf, openingBytes};
@@ -11,7 +12,7 @@ ghost use Rattle.session_calls.specs.Reply.{buffersOf, reply};
 // Checks three files, and writes nothing.
 #[no_mangle]
 pub extern "C" fn cavundir_check_files(net: &[u8], modfile: &[u8], stim: &[u8]) -> u64
-    ensures answer { λ r. ⌜ r ≡ checkBits (fileCheck panelLimit (record { NET = now (net .entry); MOD = now (modfile .entry); STIM = now (stim .entry) })) ⌝ }
+    ensures answer { λ r. ⌜ r ≡ checkBits (fileCheck panelLimit (filesOf (now (net .entry)) (now (modfile .entry)) (now (stim .entry)))) ⌝ }
 {
     session_opening::check(net, modfile, stim)
 }
@@ -26,10 +27,10 @@ pub extern "C" fn cavundir_open(
     program: &mut [u8],
     memory: &mut [u8],
 ) -> u64
-    ensures answer { λ r. ⌜ r ≡ checkBits (openingCheckLent (now (net .entry)) (now (modfile .entry)) (now (stim .entry)) (now (panel .entry)) (now (program .entry)) (now (memory .entry))) ⌝ }
-    ensures panel { λ _. ⌜ now (panel .exit) ≡ leftBy (openingCheckLent (now (net .entry)) (now (modfile .entry)) (now (stim .entry)) (now (panel .entry)) (now (program .entry)) (now (memory .entry))) (panelOf (now (net .entry)) (now (modfile .entry)) (now (stim .entry))) (now (panel .entry)) ⌝ }
-    ensures program { λ _. ⌜ now (program .exit) ≡ leftBy (openingCheckLent (now (net .entry)) (now (modfile .entry)) (now (stim .entry)) (now (panel .entry)) (now (program .entry)) (now (memory .entry))) (programOf (now (modfile .entry))) (now (program .entry)) ⌝ }
-    ensures memory { λ _. ⌜ now (memory .exit) ≡ leftBy (openingCheckLent (now (net .entry)) (now (modfile .entry)) (now (stim .entry)) (now (panel .entry)) (now (program .entry)) (now (memory .entry))) (openingBytes (now (net .entry)) (now (modfile .entry)) (now (stim .entry))) (now (memory .entry)) ⌝ }
+    ensures answer { λ r. ⌜ r ≡ checkBits (openingCheckLent (filesOf (now (net .entry)) (now (modfile .entry)) (now (stim .entry))) (now (panel .entry)) (now (program .entry)) (now (memory .entry))) ⌝ }
+    ensures panel { λ _. ⌜ now (panel .exit) ≡ leftBy (openingCheckLent (filesOf (now (net .entry)) (now (modfile .entry)) (now (stim .entry))) (now (panel .entry)) (now (program .entry)) (now (memory .entry))) (panelOf (filesOf (now (net .entry)) (now (modfile .entry)) (now (stim .entry)))) (now (panel .entry)) ⌝ }
+    ensures program { λ _. ⌜ now (program .exit) ≡ leftBy (openingCheckLent (filesOf (now (net .entry)) (now (modfile .entry)) (now (stim .entry))) (now (panel .entry)) (now (program .entry)) (now (memory .entry))) (programOf (filesOf (now (net .entry)) (now (modfile .entry)) (now (stim .entry)))) (now (program .entry)) ⌝ }
+    ensures memory { λ _. ⌜ now (memory .exit) ≡ leftBy (openingCheckLent (filesOf (now (net .entry)) (now (modfile .entry)) (now (stim .entry))) (now (panel .entry)) (now (program .entry)) (now (memory .entry))) (openingBytes (filesOf (now (net .entry)) (now (modfile .entry)) (now (stim .entry)))) (now (memory .entry)) ⌝ }
 {
     session_opening::open(net, modfile, stim, panel, program, memory)
 }

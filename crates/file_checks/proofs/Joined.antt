@@ -3,6 +3,7 @@ use Prim.Native.Nat.{ℕ}
 use mathlib.Core.Path.{_≡_, sym, _∙_}
 use mathlib.Core.List.{List}
 use Rattle.model.specs.Refusal.{Check, pass, fail}
+use Rattle.model.specs.Files.{filesOf}
 use Rattle.model.specs.Netlist.{network, netCheck}
 use Rattle.model.specs.ModuleFile.{modCheck}
 use Rattle.model.specs.Stimulus.{stimCheck}
@@ -20,7 +21,7 @@ use Rattle.file_stim.specs.declared.StimAnswer.{StimAnswer}
 
 module _ (net modfile stim : List ℕ) where
   abbrev all-files : Check
-  all-files = fileCheck panelLimit (record { NET = net; MOD = modfile; STIM = stim })
+  all-files = fileCheck panelLimit (filesOf net modfile stim)
 
   pub net-stops : (r : NetAnswer) (size : ℕ) → Judged (netCheck 4096 net) size r → Refusal r → netRefusal r ≡ all-files
   unfolding fileCheck

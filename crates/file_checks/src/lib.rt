@@ -4,6 +4,7 @@ ghost use mathlib.Core.Path.{_≡_};
 ghost use Prim.Native.Nat.{_≤_};
 ghost use lib.ListN.{length};
 ghost use lib.Seq.{sets};
+ghost use Rattle.model.specs.Files.{filesOf};
 ghost use Rattle.model.specs.Acceptance.{panelLimit, fileCheck};
 ghost use Rattle.file_net.specs.Answer.{netRefusal};
 ghost use Rattle.file_mod_lines.specs.Answer.{modRefusal};
@@ -62,7 +63,7 @@ pub fn stim_answer(answer: StimAnswer) -> FileAnswer
 
 // "Order: NET, MOD, STIM." The first that breaks its conditions is refused, before the next is read.
 pub fn check_files(net: &[u8], modfile: &[u8], stim: &[u8]) -> FileAnswer
-    ensures { λ r. ⌜ fileRefusal r ≡ fileCheck panelLimit (record { NET = now (net .entry); MOD = now (modfile .entry); STIM = now (stim .entry) }) ⌝ }
+    ensures { λ r. ⌜ fileRefusal r ≡ fileCheck panelLimit (filesOf (now (net .entry)) (now (modfile .entry)) (now (stim .entry))) ⌝ }
 {
     let first = file_net::check_net(net, 4096);
     let NetAnswer::Accepted(_) = first else {

@@ -24,7 +24,7 @@ use Rattle.model.proofs.Machine.{Near}
 use Rattle.model.proofs.Session.{Like}
 use Rattle.model.proofs.Keeping.{kept-table, kept-near, keeps}
 use Rattle.model.proofs.Value.{start-input}
-use Rattle.model.proofs.Accepted.{net-accepted, mod-accepted, net-size}
+use Rattle.model.proofs.Accepted.{net-accepted, net-size}
 use Rattle.model.proofs.Demands.{accepted-formed, accepted-acyclic, accepted-scheduled, placeOf, placed-there}
 use Rattle.model.proofs.Traces.{demand-3}
 use Rattle.buffers_memory.specs.Memory.{memoryLength, within}
@@ -204,17 +204,17 @@ module _ (files : Files) (accepted : Accepted panelLimit files) where
   abbrev pub opened : Buffers
   opened =
       record {
-        panel = panelOf (files .NET) (files .MOD) (files .STIM);
-        program = programOf (files .MOD);
-        memory = openingBytes (files .NET) (files .MOD) (files .STIM);
+        panel = panelOf files;
+        program = programOf files;
+        memory = openingBytes files;
       }
 
   pub opened-good : Good n m opened
   unfolding openingBytes
   opened-good =
       let range = opened-ranged files accepted in
-      let tables = loaded-tables (files .NET) (files .MOD) (net-accepted panelLimit files accepted) (mod-accepted panelLimit files accepted) (files .STIM) in
-      let holding = loaded-holding (files .NET) (files .MOD) (net-accepted panelLimit files accepted) (mod-accepted panelLimit files accepted) (files .STIM) in
+      let tables = loaded-tables files accepted in
+      let holding = loaded-holding files accepted in
       record {
         lengths =
             same-lengths opened
@@ -226,7 +226,7 @@ module _ (files : Files) (accepted : Accepted panelLimit files) where
         range = range;
         holding = holding;
         watching = watching-in n m opened range holding;
-        few = omega (arith, loaded-head (files .NET) (files .MOD) (net-accepted panelLimit files accepted) (mod-accepted panelLimit files accepted) (files .STIM) .0);
+        few = omega (arith, loaded-head files accepted .0);
       }
 
   -- whichever values follow the rules of VAL
@@ -258,10 +258,10 @@ module _ (files : Files) (accepted : Accepted panelLimit files) where
 
         opened-head : Like n (headIn (opened .panel)) (fresh (givenOf files))
         opened-head =
-            let head = loaded-head (files .NET) (files .MOD) (net-accepted panelLimit files accepted) (mod-accepted panelLimit files accepted) (files .STIM) in
+            let head = loaded-head files accepted in
             record {
               finished = head .0;
-              hand = λ s i k. loaded-network (files .NET) (files .MOD) (net-accepted panelLimit files accepted) (mod-accepted panelLimit files accepted) (files .STIM) .hands s i ∙ start-input n (givenOf files) s i k;
+              hand = λ s i k. loaded-network files accepted .hands s i ∙ start-input n (givenOf files) s i k;
               watch = ap (λ (x : ℕ). record { signal = x; mask = maskIn (opened .panel) }) (head .1) ∙ ap (λ (x : ℕ). record { signal = 1; mask = x }) (head .2);
             }
 

@@ -23,14 +23,14 @@ working b = record { head = headIn (b .panel); memory = memoryOf (b .memory) }
 
 -- what the opening finds in the files and the buffers lent to it
 abbrev pub openedBy : Files → Buffers → Check
-openedBy files b = openingCheckLent (files .NET) (files .MOD) (files .STIM) (b .panel) (b .program) (b .memory)
+openedBy files b = openingCheckLent files (b .panel) (b .program) (b .memory)
 
 -- The opening met its contract on any earlier buffers: bits is its answer, left what it leaves.
 pub record Opens (files : Files) (before left : Buffers) (bits : ℕ) : Type 0 where
   pub answer : bits ≡ checkBits (openedBy files before)
-  pub panel : left .panel ≡ leftBy (openedBy files before) (panelOf (files .NET) (files .MOD) (files .STIM)) (before .panel)
-  pub program : left .program ≡ leftBy (openedBy files before) (programOf (files .MOD)) (before .program)
-  pub memory : left .memory ≡ leftBy (openedBy files before) (openingBytes (files .NET) (files .MOD) (files .STIM)) (before .memory)
+  pub panel : left .panel ≡ leftBy (openedBy files before) (panelOf files) (before .panel)
+  pub program : left .program ≡ leftBy (openedBy files before) (programOf files) (before .program)
+  pub memory : left .memory ≡ leftBy (openedBy files before) (openingBytes files) (before .memory)
 
 -- A call met its contract on the buffers lent to it: bits is what it hands back, left what it leaves in them.
 pub record Meets (lent : Buffers) (c : Call) (bits : ℕ) (left : Buffers) : Type 0 where

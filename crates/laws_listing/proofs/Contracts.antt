@@ -9,7 +9,7 @@ use contract.Lifetimes.{Lfts}
 use denote.Ref.{now}
 use denote.Triple.Clauses.{AtExit}
 use borrow.Fn.Kinds.{Dens, resT, endedOf}
-use Rattle.model.specs.Files.{Files}
+use Rattle.model.specs.Files.{Files, filesOf}
 use Rattle.buffers_tables.specs.declared.Cycle.{Cycle}
 use Rattle.file_checks.specs.Answer.{fileRefusal}
 use Rattle.listing.specs.declared.Lister.{Lister}
@@ -37,7 +37,7 @@ step-more κs a p left told room rest = more _ p _ _ _ _ room told rest
 
 -- the opening
 pub open-stands : (κs : Lfts 7) (a : Dens κs open-ps) (l : resT open-r κs .Denot) (left : AtExit (endedOf 7 open-ps open-r) κs) → OpenTells κs a l left
-    → Stands (record { NET = now (a .0); MOD = now (a .1 .0); STIM = now (a .1 .1 .0) }) 0 l (now (a .1 .1 .0)) (now (left .1 .1 .1 .1 .0))
+    → Stands (filesOf (now (a .0)) (now (a .1 .0)) (now (a .1 .1 .0))) 0 l (now (a .1 .1 .0)) (now (left .1 .1 .1 .1 .0))
     (now (left .1 .1 .1 .1 .1 .0)) (now (left .1 .1 .1 .1 .1 .1 .0)) (now (left .1 .1 .1 .1 .1 .1 .1 .0))
 open-stands κs a l left told = told
 

@@ -21,7 +21,7 @@ use Rattle.model.specs.Session.{Head}
 use Rattle.model.specs.Listing.{printed}
 use Rattle.model.specs.Demands.{Demand2}
 use Rattle.model.proofs.Refusals.{pass-not-fail, first-both}
-use Rattle.model.proofs.Accepted.{net-accepted, mod-accepted, stim-accepted}
+use Rattle.model.proofs.Accepted.{stim-accepted}
 use Rattle.buffers_memory.specs.Memory.{memoryOf, withMemory}
 use Rattle.buffers_tables.specs.Panel.{signalsIn, processorsIn, slotsIn, handIn}
 use Rattle.machine_run.specs.Running.{cycleIn}
@@ -180,17 +180,15 @@ module _ {files : Files} where
 -- the listing of accepted files, opened
 module _ (files : Files) (accepted : Accepted panelLimit files) where
   abbrev panel : List ℕ
-  panel = panelOf (files .NET) (files .MOD) (files .STIM)
+  panel = panelOf files
 
   abbrev lister : Lister
   lister = record { session = sessionOf (headIn panel); cursor = record { line = lineAt files 0 }; end = record { 0 = endTime (files .STIM) }; pieces = 0 }
 
-  opens : Stands files 0 lister (files .STIM) panel (programOf (files .MOD)) (openingBytes (files .NET) (files .MOD) (files .STIM)) (listed shownLength (λ a. notShown))
+  opens : Stands files 0 lister (files .STIM) panel (programOf files) (openingBytes files) (listed shownLength (λ a. notShown))
   opens =
-      let net = net-accepted panelLimit files accepted in
-      let modfile = mod-accepted panelLimit files accepted in
-      let size = loaded-tables (files .NET) (files .MOD) net modfile (files .STIM) .panel-size in
-      opened files accepted lister panel (programOf (files .MOD)) (openingBytes (files .NET) (files .MOD) (files .STIM)) (listed shownLength (λ a. notShown))
+      let size = loaded-tables files accepted .panel-size in
+      opened files accepted lister panel (programOf files) (openingBytes files) (listed shownLength (λ a. notShown))
       refl refl refl
       (decoded panel (listed 4097 (handIn panel)) size refl _ _ _ refl refl refl)
       (lines-passed (networkOf files) (files .STIM) (stim-accepted panelLimit files accepted) 0) refl refl refl

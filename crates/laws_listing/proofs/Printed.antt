@@ -12,7 +12,7 @@ use lib.Seq.{sets-eq, take-append-seam, take-all, length-take-le}
 use borrow.Author.Tests.{lt-ltb, le-ltb}
 use Rattle.writing.specs.Text.{lineText}
 use Rattle.model.specs.Refusal.{Check, pass, fail, first}
-use Rattle.model.specs.Files.{Files}
+use Rattle.model.specs.Files.{Files, filesOf}
 use Rattle.model.specs.Netlist.{network, netCheck}
 use Rattle.model.specs.ModuleFile.{modProcessors, modSlots, modCheck}
 use Rattle.model.specs.Stimulus.{stimCheck, endTime}
@@ -193,9 +193,9 @@ module _ (files : Files) where
   -- accepted as they were read, the files were read whole
   pub read-whole : Accepted panelLimit read → read ≡ files
   read-whole accepted =
-      ap (λ (x : List ℕ). record { NET = x; MOD = read .MOD; STIM = read .STIM }) (net-whole (files .NET) (net-accepted panelLimit read accepted))
-      ∙ ap (λ (x : List ℕ). record { NET = files .NET; MOD = x; STIM = read .STIM }) (mod-whole (read .NET) (files .MOD) (mod-accepted panelLimit read accepted))
-      ∙ ap (λ (x : List ℕ). record { NET = files .NET; MOD = files .MOD; STIM = x }) (stim-whole (read .NET) (files .STIM) (stim-accepted panelLimit read accepted))
+      ap (λ (x : List ℕ). filesOf x (read .MOD) (read .STIM)) (net-whole (files .NET) (net-accepted panelLimit read accepted))
+      ∙ ap (λ (x : List ℕ). filesOf (files .NET) x (read .STIM)) (mod-whole (read .NET) (files .MOD) (mod-accepted panelLimit read accepted))
+      ∙ ap (filesOf (files .NET) (files .MOD)) (stim-whole (read .NET) (files .STIM) (stim-accepted panelLimit read accepted))
 
   -- the bytes read are judged as the whole files, and the same is printed for them
   pub read-check : fileCheck panelLimit read ≡ fileCheck panelLimit files

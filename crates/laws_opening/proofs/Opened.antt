@@ -15,12 +15,11 @@ use Rattle.gates.specs.Function.{isFunction}
 use Rattle.gates.specs.Translation.{isTranslation}
 use Rattle.model.specs.Refusal.{pass}
 use Rattle.model.specs.Files.{Files}
-use Rattle.model.specs.Acceptance.{panelLimit, Accepted}
+use Rattle.model.specs.Acceptance.{panelLimit, networkOf, moduleOfFiles, givenOf, Accepted}
 use Rattle.model.specs.Network.{Signal, input, unitDelay, rankOrder}
 use Rattle.model.specs.Netlist.{netField, netSize, network, netCheck}
 use Rattle.model.specs.Module.{Module, At}
 use Rattle.model.specs.ModuleFile.{modProcessors, modSlots, moduleOf, modCheck}
-use Rattle.model.specs.Stimulus.{stimCheck, held as given}
 use Rattle.model.specs.Value.{start}
 use Rattle.model.specs.Machine.{opening}
 use Rattle.model.proofs.Value.{start-code}
@@ -55,25 +54,36 @@ located-same {most = most} {other = other} e f g h =
       none-at-0 = λ q. g ∙ h .none-at-0 (sym f ∙ q);
     }
 
-module _ (net modfile stim : List ℕ) (n : netCheck 4096 net ≡ pass) (m : modCheck (network net) modfile ≡ pass)
-    (t : stimCheck (network net) stim ≡ pass) where
+module _ (files : Files) (accepted : Accepted panelLimit files) where
+  abbrev net : List ℕ
+  net = files .NET
+
+  abbrev modfile : List ℕ
+  modfile = files .MOD
+
+  n : netCheck 4096 net ≡ pass
+  n = net-accepted panelLimit files accepted
+
+  m : modCheck (networkOf files) modfile ≡ pass
+  m = mod-accepted panelLimit files accepted
+
   abbrev panel : List ℕ
-  panel = panelOf net modfile stim
+  panel = panelOf files
 
   abbrev program : List ℕ
-  program = programOf modfile
+  program = programOf files
 
   abbrev memory : List ℕ
-  memory = openingBytes net modfile stim
+  memory = openingBytes files
 
   abbrev zeroth : ℕ → ℕ
-  zeroth = start (network net) (given stim 0)
+  zeroth = start (networkOf files) (givenOf files)
 
-  same-lines : SameLines (moduleIn panel program) (moduleOf modfile)
-  same-lines = loaded-module net modfile n m stim
+  same-lines : SameLines (moduleIn panel program) (moduleOfFiles files)
+  same-lines = loaded-module files accepted
 
-  same-signals : SameSignals (networkIn panel program) (network net) (moduleOf modfile) panel zeroth
-  same-signals = loaded-network net modfile n m stim
+  same-signals : SameSignals (networkIn panel program) (networkOf files) (moduleOfFiles files) panel zeroth
+  same-signals = loaded-network files accepted
 
   signals-is : signalsIn panel ≡ netSize net
   unfolding networkIn network
@@ -88,8 +98,10 @@ module _ (net modfile stim : List ℕ) (n : netCheck 4096 net ≡ pass) (m : mod
   slots-is = same-lines .slots
 
   -- "At t = 0 every signal has its given value, or U": a code
-  zeroth-code : (s : ℕ) → Signal (network net) s → zeroth s ≤ 3
-  zeroth-code = start-code (network net) (given stim 0) (λ s g. held-code (network net) stim (stim-right (network net) stim t) 0 s)
+  zeroth-code : (s : ℕ) → Signal (networkOf files) s → zeroth s ≤ 3
+  zeroth-code =
+      start-code (networkOf files) (givenOf files) (λ s g.
+      held-code (networkOf files) (files .STIM) (stim-right (networkOf files) (files .STIM) (stim-accepted panelLimit files accepted)) 0 s)
 
   -- the panel
   head : Head panel
@@ -97,10 +109,10 @@ module _ (net modfile stim : List ℕ) (n : netCheck 4096 net ≡ pass) (m : mod
       let signals = signals-is in
       let processors = processors-is in
       let slots = slots-is in
-      let fresh = loaded-head net modfile n m stim in
+      let fresh = loaded-head files accepted in
       let size = net-size 4096 net n in
-      let few = mod-processors (network net) modfile m in
-      let short = mod-slots (network net) modfile m in
+      let few = mod-processors (networkOf files) modfile m in
+      let short = mod-slots (networkOf files) modfile m in
       record {
         signals-low = omega (arith, size);
         signals-high = omega (arith, size);
@@ -115,7 +127,7 @@ module _ (net modfile stim : List ℕ) (n : netCheck 4096 net ≡ pass) (m : mod
 
   -- the bytes of a signal
   module _ (s : ℕ) (low : 1 ≤ s) (high : s ≤ netSize net) where
-    is-signal : Signal (network net) s
+    is-signal : Signal (networkOf files) s
     unfolding network
     is-signal = record { low = low; high = high }
 
@@ -123,7 +135,7 @@ module _ (net modfile stim : List ℕ) (n : netCheck 4096 net ≡ pass) (m : mod
     right = net-signal 4096 net n s is-signal
 
     code-at : (c : ℕ) → 1 ≤ c → c < 7 → getD panel (10 * s + c) 0 ≡ netField net s (c + 1)
-    code-at c l h = signal-byte net modfile n m stim s is-signal c _ (omega arith) refl ∙ sym (code-byte net s _ _ _ c l h)
+    code-at c l h = signal-byte files accepted s is-signal c _ (omega arith) refl ∙ sym (code-byte net s _ _ _ c l h)
 
     kind-is : kindIn panel s ≡ netField net s 0
     unfolding networkIn network
@@ -185,12 +197,12 @@ module _ (net modfile stim : List ℕ) (n : netCheck 4096 net ≡ pass) (m : mod
         head = head;
         signals = λ s low high. numbers s low (omega arith);
         rest = λ x low high.
-            panel-byte net modfile stim (x / 10) (x % 10) x (omega arith) (omega arith) (omega arith)
-            ∙ panel-above net _ _ (placeOf modfile) (timeZero net stim) (x % 10) (x / 10) (omega arith);
+            panel-byte files (x / 10) (x % 10) x (omega arith) (omega arith) (omega arith)
+            ∙ panel-above net _ _ (placeOf modfile) (timeZero files) (x % 10) (x / 10) (omega arith);
       }
 
   -- the program
-  at-same : (p i : ℕ) → At (moduleIn panel program) p i → At (moduleOf modfile) p i
+  at-same : (p i : ℕ) → At (moduleIn panel program) p i → At (moduleOfFiles files) p i
   at-same p i a =
       record {
         processor = omega (arith, a .processor, same-lines .processors);
@@ -200,14 +212,14 @@ module _ (net modfile stim : List ℕ) (n : netCheck 4096 net ≡ pass) (m : mod
   line-range : (p i : ℕ) → At (moduleIn panel program) p i → Line (networkIn panel program) (moduleIn panel program) p i
   line-range p i a =
       let b = at-same p i a in
-      let fits = mod-slot (network net) modfile m p i b in
+      let fits = mod-slot (networkOf files) modfile m p i b in
       let slots = same-lines .slots in
       record {
         signal = omega (arith, same-lines .signals p i b, fits .signal, same-signals .size);
         operand = λ j l. located-same slots (same-lines .parts p i j b l) (same-lines .locations p i j b l) (fits .operand j l);
         send = located-same slots (same-lines .send-parts p i b) (same-lines .send-locations p i b) (fits .send);
         sender =
-            ⊎-map (λ (k : moduleOf modfile .sender p i < moduleOf modfile .processors). omega (arith, same-lines .senders p i b, same-lines .processors))
+            ⊎-map (λ (k : moduleOfFiles files .sender p i < moduleOfFiles files .processors). omega (arith, same-lines .senders p i b, same-lines .processors))
             (λ k. same-lines .senders p i b ∙ k) (fits .sender);
       }
 
@@ -220,8 +232,8 @@ module _ (net modfile stim : List ℕ) (n : netCheck 4096 net ≡ pass) (m : mod
       }
 
   -- the memory
-  small : Small (moduleOf modfile) (opening (moduleOf modfile) zeroth)
-  small = opening-small (mod-scheduled (network net) modfile m .laid) zeroth zeroth-code
+  small : Small (moduleOfFiles files) (opening (moduleOfFiles files) zeroth)
+  small = opening-small (mod-scheduled (networkOf files) modfile m .laid) zeroth zeroth-code
 
   module _ {p part k : ℕ} (there : Place p part k) where
     memory-at : getD memory (place p part k) 0 ≡ openingByte modfile zeroth p part k
@@ -229,7 +241,7 @@ module _ (net modfile stim : List ℕ) (n : netCheck 4096 net ≡ pass) (m : mod
     memory-at = written-at _ _ _ there
 
     module _ (inside : within (modProcessors modfile) (modSlots modfile) p k ≡ true) where
-      is-at : At (moduleOf modfile) p k
+      is-at : At (moduleOfFiles files) p k
       unfolding moduleOf
       is-at = let low = within-true _ _ _ _ inside in record { processor = low .0; slot = low .1 }
 
@@ -270,29 +282,9 @@ module _ (net modfile stim : List ℕ) (n : netCheck 4096 net ≡ pass) (m : mod
         rest = λ there e. memory-at there ∙ byte-rest there (rw (processors-is, slots-is) at e);
       }
 
--- "It opens when the three files are accepted": 44 does not come on what it then holds
-pub opened-ranged : (files : Files) → Accepted panelLimit files
-    → ranged (panelOf (files .NET) (files .MOD) (files .STIM)) (programOf (files .MOD)) (openingBytes (files .NET) (files .MOD) (files .STIM)) ≡ true
-opened-ranged files accepted =
-    is-ranged _ _ _ (panel-range net modfile stim n m t) (program-range net modfile stim n m t) (memory-range net modfile stim n m t)
-  where
-    net : List ℕ
-    net = files .NET
-
-    modfile : List ℕ
-    modfile = files .MOD
-
-    stim : List ℕ
-    stim = files .STIM
-
-    n : netCheck 4096 net ≡ pass
-    n = net-accepted panelLimit files accepted
-
-    m : modCheck (network net) modfile ≡ pass
-    m = mod-accepted panelLimit files accepted
-
-    t : stimCheck (network net) stim ≡ pass
-    t = stim-accepted panelLimit files accepted
+  -- "It opens when the three files are accepted": 44 does not come on what it then holds
+  pub opened-ranged : ranged panel program memory ≡ true
+  opened-ranged = is-ranged _ _ _ panel-range program-range memory-range
 
 -- "N is then 0, so every session call on them, all lengths being right, gives 44."
 zero-at : (x : ℕ) → x < panelLength → getD (cleared panelLength) x 0 ≡ 0

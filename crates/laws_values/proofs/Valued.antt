@@ -109,9 +109,9 @@ module _ (files : Files) (accepted : Accepted panelLimit files) where
         (ticks-kept (ran .count) (memoryOf bytes) rows holds)))
 
   -- before cycle 1, as `load` leaves the bytes
-  pub opening-holds : Holds (openingBytes (files .NET) (files .MOD) (files .STIM)) []
+  pub opening-holds : Holds (openingBytes files) []
   unfolding openingBytes moduleOf
   opening-holds =
-      kept-near formed acyclic ok (givenOf files) (memoryOf (openingBytes (files .NET) (files .MOD) (files .STIM))) (opening m (start n (givenOf files))) []
+      kept-near formed acyclic ok (givenOf files) (memoryOf (openingBytes files)) (opening m (start n (givenOf files))) []
       (with-memory-near m processors-few slots-few (opening m (start n (givenOf files))) (listed memoryLength (λ a. 0)))
       (kept-opening formed acyclic ok (givenOf files))

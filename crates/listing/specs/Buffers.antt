@@ -44,10 +44,9 @@ handAt files t s = if isSignal (networkOf files) s then held (files .STIM) t s e
 -- The panel after t cycles. The session is written into it before each cycle: it has the values in hand of the last cycle, and as
 -- finished the cycles before that one.
 unfoldable pub panelAt : Files → ℕ → List ℕ
-panelAt files zero = panelOf (files .NET) (files .MOD) (files .STIM)
+panelAt files zero = panelOf files
 panelAt files (suc t) =
-    withHead (record { finished = t; hand = handAt files (suc t); watch = record { signal = 1; mask = 0 } })
-    (panelOf (files .NET) (files .MOD) (files .STIM))
+    withHead (record { finished = t; hand = handAt files (suc t); watch = record { signal = 1; mask = 0 } }) (panelOf files)
 
 abbrev pub panelAfter : Files → ℕ → List ℕ
 panelAfter files k = panelAt files (cyclesAfter files k)

@@ -26,7 +26,7 @@ pub record Stands (files : Files) (k : ℕ) (l : Lister) (stim panel program mem
   pub line-is : l .cursor .line ≡ lineAfter files k
   pub session-is : headOf (l .session) ≡ headAfter files k
   pub panel-is : panel ≡ panelAfter files k
-  pub program-is : program ≡ programOf (files .MOD)
+  pub program-is : program ≡ programOf files
   pub memory-is : memory ≡ memoryAfter files k
   pub shown-is : shown ≡ shownAfter files k
   -- of these bytes: they have their lengths and are in range

@@ -3,7 +3,7 @@
 ghost use mathlib.Core.Path.{_≡_};
 ghost use Prim.Native.Nat.{ℕ, _+_};
 ghost use lib.ListN.{length};
-ghost use Rattle.model.specs.Files.{Files};
+ghost use Rattle.model.specs.Files.{Files, filesOf};
 ghost use Rattle.model.specs.Acceptance.{panelLimit, Accepted};
 ghost use Rattle.model.specs.Stimulus.{stimCount};
 ghost use Rattle.buffers_memory.specs.Memory.{memoryLength};
@@ -40,10 +40,10 @@ pub fn open(
     memory: &mut [u8],
     shown: &mut [u8],
 ) -> Lister
-    requires { ⌜ Accepted panelLimit (record { NET = now net; MOD = now modfile; STIM = now stim }) ⌝ }
+    requires { ⌜ Accepted panelLimit (filesOf (now net) (now modfile) (now stim)) ⌝ }
     requires { ⌜ lines ≡ stimCount (now stim) ⌝ }
     requires { ⌜ (length (now panel) ≡ panelLength) × (length (now program) ≡ programLength) × (length (now memory) ≡ memoryLength) × (length (now shown) ≡ shownLength) ⌝ }
-    ensures { λ r. ⌜ Stands (record { NET = now (net .entry); MOD = now (modfile .entry); STIM = now (stim .entry) }) 0 r (now (stim .entry)) (now (panel .exit)) (now (program .exit)) (now (memory .exit)) (now (shown .exit)) ⌝ }
+    ensures { λ r. ⌜ Stands (filesOf (now (net .entry)) (now (modfile .entry)) (now (stim .entry))) 0 r (now (stim .entry)) (now (panel .exit)) (now (program .exit)) (now (memory .exit)) (now (shown .exit)) ⌝ }
 {
     buffers_load::load(net, modfile, stim, panel, program, memory);
     buffers_load::fill(shown, 4);

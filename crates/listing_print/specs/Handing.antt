@@ -10,10 +10,6 @@ use Rattle.model.specs.Acceptance.{panelLimit, fileCheck}
 use Rattle.model.specs.Listing.{refusalLine}
 use Rattle.listing.specs.Pieces.{pieceCount, pieceAt}
 
--- the three files, by their bytes
-abbrev pub filesOf : List ℕ → List ℕ → List ℕ → Files
-filesOf net modfile stim = record { NET = net; MOD = modfile; STIM = stim }
-
 unfoldable pub partFor : Check → Files → ℕ → List ℕ
 partFor pass files k = pieceAt files k
 partFor (fail number returned) files k = refusalLine number returned

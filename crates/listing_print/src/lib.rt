@@ -4,10 +4,11 @@ ghost use mathlib.Core.Path.{_≡_};
 ghost use mathlib.Core.Bool.{false};
 ghost use Prim.Native.Nat.{_<_};
 ghost use Rattle.model.specs.Refusal.{pass};
+ghost use Rattle.model.specs.Files.{filesOf};
 ghost use Rattle.model.specs.Acceptance.{panelLimit, fileCheck, Accepted};
 ghost use Rattle.model.specs.Stimulus.{stimCount};
 ghost use Rattle.file_checks.specs.Answer.{fileRefusal};
-ghost use Rattle.listing_print.specs.Handing.{filesOf, partAt, partCount, partsAfter, Handing};
+ghost use Rattle.listing_print.specs.Handing.{partAt, partCount, partsAfter, Handing};
 use file_checks::FileAnswer;
 use libc::STDOUT_FILENO;
 

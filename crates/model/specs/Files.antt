@@ -6,3 +6,7 @@ pub record Files : Type 0 where
   pub NET : List ℕ
   pub MOD : List ℕ
   pub STIM : List ℕ
+
+-- the files, by the bytes of each
+abbrev pub filesOf : List ℕ → List ℕ → List ℕ → Files
+filesOf net modfile stim = record { NET = net; MOD = modfile; STIM = stim }

@@ -14,9 +14,8 @@ unfoldable pub openingCheck : Files → Lengths → Check
 openingCheck files lent = first (unless (sameLengths lent fixed) 40 0) (fileCheck panelLimit files)
 
 -- the same by the bytes lent
-abbrev pub openingCheckLent : (net modfile stim panel program memory : List ℕ) → Check
-openingCheckLent net modfile stim panel program memory =
-    openingCheck (record { NET = net; MOD = modfile; STIM = stim }) (lengthsLent panel program memory)
+abbrev pub openingCheckLent : Files → (panel program memory : List ℕ) → Check
+openingCheckLent files panel program memory = openingCheck files (lengthsLent panel program memory)
 
 -- "A refused opening leaves the working buffers all zero, as far as they were lent to it": that number of zeros
 abbrev pub cleared : ℕ → List ℕ

@@ -2,6 +2,7 @@
 
 ghost use mathlib.Core.Path.{_≡_};
 ghost use lib.ListN.{length};
+ghost use Rattle.model.specs.Files.{filesOf};
 ghost use Rattle.model.specs.Acceptance.{panelLimit, fileCheck};
 ghost use Rattle.model.specs.Session.{refused};
 ghost use Rattle.buffers_load_files.specs.Loaded.{panelOf, programOf, openingBytes};
@@ -40,10 +41,10 @@ pub fn open(
     program: &mut [u8],
     memory: &mut [u8],
 ) -> u64
-    ensures answer { λ r. ⌜ r ≡ checkBits (openingCheckLent (now (net .entry)) (now (modfile .entry)) (now (stim .entry)) (now (panel .entry)) (now (program .entry)) (now (memory .entry))) ⌝ }
-    ensures panel { λ _. ⌜ now (panel .exit) ≡ leftBy (openingCheckLent (now (net .entry)) (now (modfile .entry)) (now (stim .entry)) (now (panel .entry)) (now (program .entry)) (now (memory .entry))) (panelOf (now (net .entry)) (now (modfile .entry)) (now (stim .entry))) (now (panel .entry)) ⌝ }
-    ensures program { λ _. ⌜ now (program .exit) ≡ leftBy (openingCheckLent (now (net .entry)) (now (modfile .entry)) (now (stim .entry)) (now (panel .entry)) (now (program .entry)) (now (memory .entry))) (programOf (now (modfile .entry))) (now (program .entry)) ⌝ }
-    ensures memory { λ _. ⌜ now (memory .exit) ≡ leftBy (openingCheckLent (now (net .entry)) (now (modfile .entry)) (now (stim .entry)) (now (panel .entry)) (now (program .entry)) (now (memory .entry))) (openingBytes (now (net .entry)) (now (modfile .entry)) (now (stim .entry))) (now (memory .entry)) ⌝ }
+    ensures answer { λ r. ⌜ r ≡ checkBits (openingCheckLent (filesOf (now (net .entry)) (now (modfile .entry)) (now (stim .entry))) (now (panel .entry)) (now (program .entry)) (now (memory .entry))) ⌝ }
+    ensures panel { λ _. ⌜ now (panel .exit) ≡ leftBy (openingCheckLent (filesOf (now (net .entry)) (now (modfile .entry)) (now (stim .entry))) (now (panel .entry)) (now (program .entry)) (now (memory .entry))) (panelOf (filesOf (now (net .entry)) (now (modfile .entry)) (now (stim .entry)))) (now (panel .entry)) ⌝ }
+    ensures program { λ _. ⌜ now (program .exit) ≡ leftBy (openingCheckLent (filesOf (now (net .entry)) (now (modfile .entry)) (now (stim .entry))) (now (panel .entry)) (now (program .entry)) (now (memory .entry))) (programOf (filesOf (now (net .entry)) (now (modfile .entry)) (now (stim .entry)))) (now (program .entry)) ⌝ }
+    ensures memory { λ _. ⌜ now (memory .exit) ≡ leftBy (openingCheckLent (filesOf (now (net .entry)) (now (modfile .entry)) (now (stim .entry))) (now (panel .entry)) (now (program .entry)) (now (memory .entry))) (openingBytes (filesOf (now (net .entry)) (now (modfile .entry)) (now (stim .entry)))) (now (memory .entry)) ⌝ }
 {
     if !buffers_lengths::lengths_right(panel, program, memory) {
         return refuse(40, 0, panel, program, memory);
@@ -57,7 +58,7 @@ pub fn open(
 
 // The check of the three files alone, in the opening's bits: 0 where they are accepted, else the refusal.
 pub fn check(net: &[u8], modfile: &[u8], stim: &[u8]) -> u64
-    ensures answer { λ r. ⌜ r ≡ checkBits (fileCheck panelLimit (record { NET = now (net .entry); MOD = now (modfile .entry); STIM = now (stim .entry) })) ⌝ }
+    ensures answer { λ r. ⌜ r ≡ checkBits (fileCheck panelLimit (filesOf (now (net .entry)) (now (modfile .entry)) (now (stim .entry)))) ⌝ }
 {
     let FileAnswer::Refused(number, returned) = file_checks::check_files(net, modfile, stim) else {
         return 0;

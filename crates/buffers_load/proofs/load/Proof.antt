@@ -1,5 +1,6 @@
 -- `load`: the array of values is `timeZero`, and so the buffers by it are the buffers by the files.
 use mathlib.Core.Path.{_∙_}
+use Rattle.model.specs.Files.{Files, filesOf}
 use Rattle.buffers_load_files.proofs.Fields.{schedules}
 use Rattle.buffers_load.proofs.Opening.{values-size, values-none, panel-zeroth, opening-zeroth}
 use borrow.Author.Needs.{needs}
@@ -10,12 +11,15 @@ use Rattle.buffers_load.proofs.load.Tie as tie
 abbrev entry : tie.After-load-values → tie.Start
 entry c = c .before .before .before .before .before .before .before .before
 
+abbrev files : tie.Start → Files
+files s = filesOf (s .args .net .now) (s .args .modfile .now) (s .args .stim .now)
+
 load-panel-requires : tie.Need-load-panel-requires
 load-panel-requires c κs =
     let values = c .before .before .before in
     let s = entry values in
     let l = values .load-values .ensures in
-    (s .pre .0, (schedules _ _ (s .pre .0) (s .pre .1 .0), (values-size (s .args .net .now) (s .args .stim .now) _ l, s .pre .1 .1 .1 .0)))
+    (s .pre .0, (schedules _ _ (s .pre .0) (s .pre .1 .0), (values-size (files s) _ l, s .pre .1 .1 .1 .0)))
 
 load-program-requires : tie.Need-load-program-requires
 load-program-requires c κs = let s = entry (c .before .before .before .before .before .before .before) in (schedules _ _ (s .pre .0) (s .pre .1 .0), s .pre .1 .1 .1 .1)
@@ -26,7 +30,7 @@ load-memory-requires c κs =
     let values = program .before .before .before .before .before .before .before .before in
     let s = entry values in
     let l = values .load-values .ensures in
-    (schedules _ _ (s .pre .0) (s .pre .1 .0), (values-size (s .args .net .now) (s .args .stim .now) _ l, values-none (s .args .net .now) (s .args .stim .now) _ l, s .pre .1 .1 .1 .2))
+    (schedules _ _ (s .pre .0) (s .pre .1 .0), (values-size (files s) _ l, values-none (files s) _ l, s .pre .1 .1 .1 .2))
 
 returns : tie.Need-returns
 returns c =
@@ -36,10 +40,7 @@ returns c =
     let values = panel .before .before .before .before in
     let s = entry values in
     let l = values .load-values .ensures in
-    let n = s .args .net .now in
-    let t = s .args .modfile .now in
-    let w = s .args .stim .now in
-    (panel .load-panel .ensures ∙ panel-zeroth n w _ l (s .pre .0) t, (program .load-program .ensures, memory .load-memory .ensures ∙ opening-zeroth n w _ l (s .pre .0) t (s .pre .1 .0)))
+    (panel .load-panel .ensures ∙ panel-zeroth (files s) _ l (s .pre .0), (program .load-program .ensures, memory .load-memory .ensures ∙ opening-zeroth (files s) _ l (s .pre .0) (s .pre .1 .0)))
 
 pub load-spec : {M : Type 1} → statement M
 load-spec =

@@ -2,7 +2,7 @@
 use Prim.Native.Nat.{_-_, _/_, _%_}
 use borrow.Author.Needs.{needs}
 use Rattle.buffers_tables.specs.Program.{programLength}
-use Rattle.buffers_load_files.specs.Loaded.{programByte, programOf}
+use Rattle.buffers_load_files.specs.Loaded.{programByte, programFrom}
 use Rattle.logic.proofs.Filling.{Filled, fill-starts, fill-more, fill-ends}
 use native.Mathlib.Omega.{arith}
 use Rattle.buffers_load_program.proofs.load_program.Statement.{statement}
@@ -21,7 +21,7 @@ loop-again : tie.Need-loop-again Inv-loop μ-loop
 loop-again c = fill-more (c .before .before .loop .inv) _ (omega arith) (c .program-byte .ensures)
 
 returns : tie.Need-returns Inv-loop μ-loop
-unfolding programOf
+unfolding programFrom
 returns c = fill-ends (c .before .loop .inv) (omega arith)
 
 pub load-program-spec : {M : Type 1} → statement M

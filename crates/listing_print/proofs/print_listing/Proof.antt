@@ -4,11 +4,11 @@ use mathlib.Core.Path.{_≡_, refl, sym}
 use lib.ListN.{length}
 use native.Mathlib.Omega.{arith}
 use borrow.Author.Needs.{needs}
+use Rattle.model.specs.Files.{filesOf}
 use Rattle.buffers_memory.specs.Memory.{memoryLength}
 use Rattle.buffers_tables.specs.Panel.{panelLength}
 use Rattle.buffers_tables.specs.Program.{programLength}
 use Rattle.listing_cycle.specs.Changes.{pieceLength}
-use Rattle.listing_print.specs.Handing.{filesOf}
 use Rattle.listing_print.proofs.Parts.{prefix-length}
 use Rattle.listing_print.proofs.Printing.{parts-few, handed-cut, Underway, starts, all-handed, left, standing, gives-room, gives-next, goes-on}
 use Rattle.listing_print.proofs.print_listing.Statement.{statement}

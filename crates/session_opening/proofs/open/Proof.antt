@@ -1,6 +1,7 @@
 -- The three ways out: a wrong length, accepted files, a refused file. Each gives the check, and with it the answer and the bytes.
 use mathlib.Core.Path.{sym, _∙_}
 use borrow.Author.Tests.{not-true, not-false}
+use Rattle.model.specs.Files.{filesOf}
 use Rattle.model.proofs.Accepted.{net-accepted, mod-accepted, stim-accepted}
 use Rattle.buffers_load_files.specs.Loaded.{panelOf, programOf, openingBytes}
 use Rattle.buffers_lengths.proofs.Sizes.{same-sizes}
@@ -32,13 +33,11 @@ returns-2 c =
     let test = told .before .before .before in
     let lent = test .before .before .before .before .before in
     let s = lent .before .before .before .before .before .before in
-    let net = s .args .net .now in
-    let modfile = s .args .modfile .now in
-    let stim = s .args .stim .now in
+    let files = filesOf (s .args .net .now) (s .args .modfile .now) (s .args .stim .now) in
     let e = right-length _ _ (sym (test .before .lengths-right .ensures) ∙ not-false _ (test .if1 .left))
     ∙ files-accepted _ _ (told .before .before .check-files .ensures) (told .enum-told .given .1) in
     let r = loaded .load .ensures in
-    (accepted-bits e, (accepted-left e _ (panelOf net modfile stim) _ (r .0), (accepted-left e _ (programOf modfile) _ (r .1 .0), accepted-left e _ (openingBytes net modfile stim) _ (r .1 .1))))
+    (accepted-bits e, (accepted-left e _ (panelOf files) _ (r .0), (accepted-left e _ (programOf files) _ (r .1 .0), accepted-left e _ (openingBytes files) _ (r .1 .1))))
 
 returns-3 : tie.Need-returns-3
 returns-3 c =
