@@ -10,12 +10,14 @@ use Rattle.logic.proofs.Listed.{listed-length, listed-at}
 use Rattle.gates.specs.Gate.{gate}
 use Rattle.model.specs.Refusal.{pass}
 use Rattle.model.specs.Network.{Network, Signal}
-use Rattle.model.specs.Netlist.{netField, netSize, network, netCheck, codes}
+use Rattle.model.specs.Netlist.{netField, netSize, network, codes}
 use Rattle.model.specs.Value.{start}
 use Rattle.model.specs.Module.{Module, At, Laid}
 use Rattle.model.specs.ModuleFile.{modProcessors, modSlots, moduleOf, modCheck}
 use Rattle.model.specs.Stimulus.{held as given}
-use Rattle.model.proofs.Accepted.{net-size, mod-processors, mod-slots, mod-scheduled}
+use Rattle.model.specs.Checked.{Checked}
+use Rattle.model.proofs.Accepted.{mod-processors, mod-slots, mod-scheduled}
+use Rattle.model.proofs.Checked.{checked-size}
 use Rattle.buffers_tables.specs.Panel.{panelLength, signalsIn, slotsIn, finishedIn, watchedIn, maskIn, kindIn, codesIn, handIn, processorIn, slotIn}
 use Rattle.buffers_tables.specs.Program.{programLength, lineIn, signalAt, partAt, locationAt}
 use Rattle.buffers_tables.specs.Tables.{moduleIn, networkIn, Tables}
@@ -84,7 +86,7 @@ panel-byte net modfile stim s c x low-s low-c e =
     ∙ ap (λ (y : ℕ). byte y (x % 10)) a
     ∙ ap (λ (y : ℕ). byte s y) b
 
-module _ (net modfile : List ℕ) (n : netCheck 4096 net ≡ pass) (m : modCheck (network net) modfile ≡ pass) where
+module _ (net modfile : List ℕ) (n : Checked net) (m : modCheck (network net) modfile ≡ pass) where
   -- a byte of a line of the module
   module _ (p i : ℕ) (a : At (moduleOf modfile) p i) where
     line-there : (c x : ℕ) → c < 13 → x ≡ lineIn p i + c → getD (programOf modfile) x 0 ≡ getD (lineBytes (moduleOf modfile) p i) c 0
@@ -144,7 +146,7 @@ module _ (net modfile : List ℕ) (n : netCheck 4096 net ≡ pass) (m : modCheck
           ≡ getD (signalBytes net s (timeZero net stim s) (placeOf modfile s / modSlots modfile) (placeOf modfile s % modSlots modfile)) c 0
       unfolding network
       signal-byte c x low e =
-          panel-byte net modfile stim s c x (omega (arith, g .high, net-size 4096 net n)) low e
+          panel-byte net modfile stim s c x (omega (arith, g .high, checked-size net n)) low e
           ∙ panel-signal net (modProcessors modfile) (modSlots modfile) (placeOf modfile) (timeZero net stim) c s (λ (z : s ≡ 0). omega (arith, g .low)) (g .high)
 
       kind-there : kindIn (panelOf net modfile stim) s ≡ netField net s 0
@@ -196,7 +198,7 @@ module _ (net modfile : List ℕ) (n : netCheck 4096 net ≡ pass) (m : modCheck
         record {
           panel-size = listed-length panelLength _;
           program-size = listed-length programLength _;
-          signals-high = omega (arith, size-there, net-size 4096 net n);
+          signals-high = omega (arith, size-there, checked-size net n);
           processors-high = omega (arith, head-there 2 (omega arith), mod-processors (network net) modfile m);
           slots-high = omega (arith, slots-there, mod-slots (network net) modfile m);
           laid = same-laid loaded-module (loaded-network .size) (mod-scheduled (network net) modfile m .laid);

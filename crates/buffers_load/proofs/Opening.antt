@@ -12,11 +12,12 @@ use Rattle.logic.specs.Listed.{listed}
 use Rattle.logic.proofs.Listed.{listed-length}
 use Rattle.model.specs.Refusal.{pass}
 use Rattle.model.specs.Network.{isSignal}
-use Rattle.model.specs.Netlist.{netSize, network, netCheck}
+use Rattle.model.specs.Netlist.{netSize, network}
 use Rattle.model.specs.Value.{valueOf, start}
 use Rattle.model.specs.Module.{noSender}
 use Rattle.model.specs.ModuleFile.{modField, modIndex, modProcessors, modSlots, moduleOf, modCheck}
 use Rattle.model.specs.Stimulus.{held as given}
+use Rattle.model.specs.Checked.{Checked}
 use Rattle.model.proofs.Accepted.{mod-slot}
 use Rattle.buffers_memory.specs.Memory.{memoryLength, within, written}
 use Rattle.buffers_memory.proofs.Written.{Place}
@@ -48,22 +49,22 @@ module _ (net stim values : List ℕ) (e : values ≡ listed 4097 (timeZero net 
   pub values-none : getD values 0 0 ≡ 0
   values-none = array-at (timeZero net stim) values e 0 (omega arith) ∙ zero-is net stim
 
-  module _ (accepted : netCheck 4096 net ≡ pass) (modfile : List ℕ) where
+  module _ (checked : Checked net) (modfile : List ℕ) where
     pub panel-zeroth : panelWith net modfile (valueIn values) ≡ panelOf net modfile stim
     unfolding panelOf panelWith
     panel-zeroth =
         listed-same panelLength _ _
         (λ a b. panel-same net (modProcessors modfile) (modSlots modfile) (placeOf modfile) (valueIn values) (a % 10) (placeOf modfile) (timeZero net stim)
-        (λ s l h. refl) (λ s l h. array-at (timeZero net stim) values e s (in-array net accepted s h)) (a / 10))
+        (λ s l h. refl) (λ s l h. array-at (timeZero net stim) values e s (in-array net checked s h)) (a / 10))
 
     value-same : (s : ℕ) → s ≤ netSize net → valueOf (valueIn values) s ≡ valueOf (start (network net) (given stim 0)) s
     value-same zero h = refl
     value-same (suc s) h =
-        array-at (timeZero net stim) values e (suc s) (in-array net accepted (suc s) h) ∙ zeroth-is net stim (suc s) (omega arith) h
+        array-at (timeZero net stim) values e (suc s) (in-array net checked (suc s) h) ∙ zeroth-is net stim (suc s) (omega arith) h
 
     module _ (m : modCheck (network net) modfile ≡ pass) where
       abbrev fits : ModuleChecked modfile
-      fits = schedules net modfile accepted m
+      fits = schedules net modfile checked m
 
       local-same : (p k : ℕ) → p < modProcessors modfile → k < modSlots modfile
           → valueOf (valueIn values) (moduleOf modfile .signal p k) ≡ valueOf (start (network net) (given stim 0)) (moduleOf modfile .signal p k)

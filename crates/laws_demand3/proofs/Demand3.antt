@@ -23,7 +23,8 @@ use Rattle.model.specs.Demands.{Trace, end, next, Demand3}
 use Rattle.model.proofs.Machine.{Near}
 use Rattle.model.proofs.Session.{Like}
 use Rattle.model.proofs.Keeping.{kept-table, kept-near, keeps}
-use Rattle.model.proofs.Accepted.{net-accepted, mod-accepted, net-size}
+use Rattle.model.proofs.Accepted.{mod-accepted}
+use Rattle.model.proofs.Checked.{files-checked, checked-size}
 use Rattle.model.proofs.Demands.{accepted-formed, accepted-acyclic, accepted-scheduled, placeOf, placed-there}
 use Rattle.model.proofs.Traces.{demand-3}
 use Rattle.buffers_memory.specs.Memory.{memoryLength, within}
@@ -212,8 +213,8 @@ module _ (files : Files) (accepted : Accepted panelLimit files) where
   unfolding openingBytes
   opened-good =
       let range = opened-ranged files accepted in
-      let tables = loaded-tables (files .NET) (files .MOD) (net-accepted panelLimit files accepted) (mod-accepted panelLimit files accepted) (files .STIM) in
-      let holding = loaded-holding (files .NET) (files .MOD) (net-accepted panelLimit files accepted) (mod-accepted panelLimit files accepted) (files .STIM) in
+      let tables = loaded-tables (files .NET) (files .MOD) (files-checked panelLimit (omega arith) files accepted) (mod-accepted panelLimit files accepted) (files .STIM) in
+      let holding = loaded-holding (files .NET) (files .MOD) (files-checked panelLimit (omega arith) files accepted) (mod-accepted panelLimit files accepted) (files .STIM) in
       record {
         lengths =
             same-lengths opened
@@ -225,7 +226,7 @@ module _ (files : Files) (accepted : Accepted panelLimit files) where
         range = range;
         holding = holding;
         watching = watching-in n m opened range holding;
-        few = omega (arith, loaded-head (files .NET) (files .MOD) (net-accepted panelLimit files accepted) (mod-accepted panelLimit files accepted) (files .STIM) .0);
+        few = omega (arith, loaded-head (files .NET) (files .MOD) (files-checked panelLimit (omega arith) files accepted) (mod-accepted panelLimit files accepted) (files .STIM) .0);
       }
 
   -- whichever values follow the rules of VAL
@@ -253,14 +254,14 @@ module _ (files : Files) (accepted : Accepted panelLimit files) where
         })
       where
         size : (1 ≤ n .size) × (n .size ≤ 4096)
-        size = net-size panelLimit (files .NET) (net-accepted panelLimit files accepted)
+        size = checked-size (files .NET) (files-checked panelLimit (omega arith) files accepted)
 
         opened-head : Like n (headIn (opened .panel)) (fresh (givenOf files))
         opened-head =
-            let head = loaded-head (files .NET) (files .MOD) (net-accepted panelLimit files accepted) (mod-accepted panelLimit files accepted) (files .STIM) in
+            let head = loaded-head (files .NET) (files .MOD) (files-checked panelLimit (omega arith) files accepted) (mod-accepted panelLimit files accepted) (files .STIM) in
             record {
               finished = head .0;
-              hand = λ s i k. loaded-network (files .NET) (files .MOD) (net-accepted panelLimit files accepted) (mod-accepted panelLimit files accepted) (files .STIM) .hands s i;
+              hand = λ s i k. loaded-network (files .NET) (files .MOD) (files-checked panelLimit (omega arith) files accepted) (mod-accepted panelLimit files accepted) (files .STIM) .hands s i;
               watch = ap (λ (x : ℕ). record { signal = x; mask = maskIn (opened .panel) }) (head .1) ∙ ap (λ (x : ℕ). record { signal = 1; mask = x }) (head .2);
             }
 

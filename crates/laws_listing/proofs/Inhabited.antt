@@ -21,7 +21,8 @@ use Rattle.model.specs.Session.{Head}
 use Rattle.model.specs.Listing.{printed}
 use Rattle.model.specs.Demands.{Demand2}
 use Rattle.model.proofs.Refusals.{pass-not-fail, first-both}
-use Rattle.model.proofs.Accepted.{net-accepted, mod-accepted, stim-accepted}
+use Rattle.model.proofs.Accepted.{mod-accepted, stim-accepted}
+use Rattle.model.proofs.Checked.{files-checked}
 use Rattle.buffers_memory.specs.Memory.{memoryOf, withMemory}
 use Rattle.buffers_tables.specs.Panel.{signalsIn, processorsIn, slotsIn, handIn}
 use Rattle.machine_run.specs.Running.{cycleIn}
@@ -187,7 +188,7 @@ module _ (files : Files) (accepted : Accepted panelLimit files) where
 
   opens : Stands files 0 lister (files .STIM) panel (programOf (files .MOD)) (openingBytes (files .NET) (files .MOD) (files .STIM)) (listed shownLength (λ a. notShown))
   opens =
-      let net = net-accepted panelLimit files accepted in
+      let net = files-checked panelLimit (omega arith) files accepted in
       let modfile = mod-accepted panelLimit files accepted in
       let size = loaded-tables (files .NET) (files .MOD) net modfile (files .STIM) .panel-size in
       opened files accepted lister panel (programOf (files .MOD)) (openingBytes (files .NET) (files .MOD) (files .STIM)) (listed shownLength (λ a. notShown))

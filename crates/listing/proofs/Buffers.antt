@@ -25,7 +25,8 @@ use Rattle.model.specs.Listing.{valueAt}
 use Rattle.model.proofs.Chains.{signal-true, signal-test}
 use Rattle.model.proofs.Machine.{Near, near-refl, cycle-rows, cycle-near}
 use Rattle.model.proofs.Keeping.{machine-holds-VAL}
-use Rattle.model.proofs.Accepted.{net-accepted, mod-accepted}
+use Rattle.model.proofs.Accepted.{mod-accepted}
+use Rattle.model.proofs.Checked.{files-checked}
 use Rattle.model.proofs.Demands.{accepted-formed, accepted-acyclic, accepted-scheduled}
 use Rattle.buffers_memory.specs.Memory.{memoryLength, memoryOf, within, withMemory}
 use Rattle.buffers_memory.proofs.Written.{written-same}
@@ -153,11 +154,11 @@ module _ (files : Files) where
     program = programOf (files .MOD)
 
     few : signalsIn loaded ≤ 4096
-    few = loaded-tables (files .NET) (files .MOD) (net-accepted panelLimit files accepted) (mod-accepted panelLimit files accepted) stim .signals-high
+    few = loaded-tables (files .NET) (files .MOD) (files-checked panelLimit (omega arith) files accepted) (mod-accepted panelLimit files accepted) stim .signals-high
 
     -- the panel holds the files' network and module
     loaded-here : Holding n m loaded program
-    loaded-here = loaded-holding (files .NET) (files .MOD) (net-accepted panelLimit files accepted) (mod-accepted panelLimit files accepted) stim
+    loaded-here = loaded-holding (files .NET) (files .MOD) (files-checked panelLimit (omega arith) files accepted) (mod-accepted panelLimit files accepted) stim
 
     pub panel-holding : (t : ℕ) → Holding n m (panelAt files t) program
     unfolding panelAt
@@ -168,7 +169,7 @@ module _ (files : Files) where
     pub panel-hand : (t s : ℕ) → Signal n s → handIn (panelAt files t) s ≡ held stim t s
     unfolding panelAt start
     panel-hand zero s g =
-        loaded-network (files .NET) (files .MOD) (net-accepted panelLimit files accepted) (mod-accepted panelLimit files accepted) stim .hands s g
+        loaded-network (files .NET) (files .MOD) (files-checked panelLimit (omega arith) files accepted) (mod-accepted panelLimit files accepted) stim .hands s g
     panel-hand (suc t) s g =
         with-head-hand _ loaded s (g .low) (signal-high loaded program n s few (loaded-here .signals) g) ∙ hand-signal (suc t) s g
 
@@ -176,7 +177,7 @@ module _ (files : Files) where
     pub panel-none : (t : ℕ) → handIn (panelAt files t) 0 ≡ 1
     unfolding panelAt
     panel-none zero =
-        let head = loaded-head (files .NET) (files .MOD) (net-accepted panelLimit files accepted) (mod-accepted panelLimit files accepted) stim in
+        let head = loaded-head (files .NET) (files .MOD) (files-checked panelLimit (omega arith) files accepted) (mod-accepted panelLimit files accepted) stim in
         omega (arith, head .1)
     panel-none (suc t) = session-byte _ loaded 7 (omega arith)
 

@@ -13,7 +13,8 @@ use Rattle.model.specs.Machine.{opening, after}
 use Rattle.model.specs.ModuleFile.{modProcessors, modSlots, moduleOf}
 use Rattle.model.specs.Stimulus.{endTime}
 use Rattle.model.specs.Acceptance.{panelLimit, networkOf, moduleOfFiles, givenOf, Accepted}
-use Rattle.model.proofs.Accepted.{net-accepted, mod-accepted, stim-accepted}
+use Rattle.model.proofs.Accepted.{mod-accepted, stim-accepted}
+use Rattle.model.proofs.Checked.{files-checked}
 use Rattle.buffers_memory.specs.Memory.{memoryLength, within}
 use Rattle.buffers_memory.proofs.Written.{written-length}
 use Rattle.buffers_load_files.specs.Loaded.{panelOf, programOf, openingBytes}
@@ -45,7 +46,7 @@ module _ (files : Files) (accepted : Accepted panelLimit files) where
   opened-right : RightBuffers panel program memory
   unfolding openingBytes
   opened-right =
-      let tables = loaded-tables (files .NET) (files .MOD) (net-accepted panelLimit files accepted) (mod-accepted panelLimit files accepted) (files .STIM) in
+      let tables = loaded-tables (files .NET) (files .MOD) (files-checked panelLimit (omega arith) files accepted) (mod-accepted panelLimit files accepted) (files .STIM) in
       record {
         sizes = record {
           panel-size = tables .panel-size;
@@ -59,7 +60,7 @@ module _ (files : Files) (accepted : Accepted panelLimit files) where
       → l .pieces ≡ 0 → (shown : List ℕ) → shown ≡ listed shownLength (λ a. notShown) → Stands files 0 l (files .STIM) panel program memory shown
   unfolding cyclesAfter panelAt memoryAt shownAt openingBytes after history moduleOf network
   opened-stands l head passed end count shown none =
-      let zeroth = loaded-head (files .NET) (files .MOD) (net-accepted panelLimit files accepted) (mod-accepted panelLimit files accepted) (files .STIM) in
+      let zeroth = loaded-head (files .NET) (files .MOD) (files-checked panelLimit (omega arith) files accepted) (mod-accepted panelLimit files accepted) (files .STIM) in
       record {
         accepted = accepted;
         stimulus = refl;
