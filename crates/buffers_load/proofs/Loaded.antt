@@ -11,12 +11,14 @@ use Rattle.gates.specs.Gate.{gate}
 use Rattle.model.specs.Refusal.{pass}
 use Rattle.model.specs.Files.{Files}
 use Rattle.model.specs.Network.{Network, Signal}
-use Rattle.model.specs.Netlist.{netField, netSize, network, netCheck, codes}
+use Rattle.model.specs.Netlist.{netField, netSize, network, codes}
 use Rattle.model.specs.Value.{start}
 use Rattle.model.specs.Module.{Module, At, Laid}
 use Rattle.model.specs.ModuleFile.{modProcessors, modSlots, moduleOf, modCheck}
 use Rattle.model.specs.Acceptance.{panelLimit, networkOf, moduleOfFiles, givenOf, Accepted}
-use Rattle.model.proofs.Accepted.{net-accepted, mod-accepted, net-size, mod-processors, mod-slots, mod-scheduled}
+use Rattle.model.proofs.Accepted.{mod-accepted, mod-processors, mod-slots, mod-scheduled}
+use Rattle.model.specs.Checked.{Checked}
+use Rattle.model.proofs.Checked.{files-checked, checked-size}
 use Rattle.buffers_tables.specs.Panel.{panelLength, signalsIn, slotsIn, finishedIn, watchedIn, maskIn, kindIn, codesIn, handIn, processorIn, slotIn}
 use Rattle.buffers_tables.specs.Program.{programLength, lineIn, signalAt, partAt, locationAt}
 use Rattle.buffers_tables.specs.Tables.{moduleIn, networkIn, Tables}
@@ -93,8 +95,8 @@ module _ (files : Files) (accepted : Accepted panelLimit files) where
   abbrev modfile : List ℕ
   modfile = files .MOD
 
-  n : netCheck 4096 net ≡ pass
-  n = net-accepted panelLimit files accepted
+  n : Checked net
+  n = files-checked panelLimit (omega arith) files accepted
 
   m : modCheck (networkOf files) modfile ≡ pass
   m = mod-accepted panelLimit files accepted
@@ -157,7 +159,7 @@ module _ (files : Files) (accepted : Accepted panelLimit files) where
         ≡ getD (signalBytes net s (timeZero files s) (placeOf modfile s / modSlots modfile) (placeOf modfile s % modSlots modfile)) c 0
     unfolding network
     signal-byte c x low e =
-        panel-byte files s c x (omega (arith, g .high, net-size 4096 net n)) low e
+        panel-byte files s c x (omega (arith, g .high, checked-size net n)) low e
         ∙ panel-signal net (modProcessors modfile) (modSlots modfile) (placeOf modfile) (timeZero files) c s (λ (z : s ≡ 0). omega (arith, g .low)) (g .high)
 
     kind-there : kindIn (panelOf files) s ≡ netField net s 0
@@ -209,7 +211,7 @@ module _ (files : Files) (accepted : Accepted panelLimit files) where
       record {
         panel-size = listed-length panelLength _;
         program-size = listed-length programLength _;
-        signals-high = omega (arith, size-there, net-size 4096 net n);
+        signals-high = omega (arith, size-there, checked-size net n);
         processors-high = omega (arith, head-there 2 (omega arith), mod-processors (networkOf files) modfile m);
         slots-high = omega (arith, slots-there, mod-slots (networkOf files) modfile m);
         laid = same-laid loaded-module (loaded-network .size) (mod-scheduled (networkOf files) modfile m .laid);

@@ -13,11 +13,12 @@ use Rattle.logic.proofs.Listed.{listed-length}
 use Rattle.model.specs.Refusal.{pass}
 use Rattle.model.specs.Files.{Files}
 use Rattle.model.specs.Network.{isSignal}
-use Rattle.model.specs.Netlist.{netSize, network, netCheck}
+use Rattle.model.specs.Netlist.{netSize, network}
 use Rattle.model.specs.Value.{valueOf, start}
 use Rattle.model.specs.Module.{noSender}
 use Rattle.model.specs.ModuleFile.{modField, modIndex, modProcessors, modSlots, moduleOf, modCheck}
 use Rattle.model.specs.Acceptance.{networkOf, givenOf}
+use Rattle.model.specs.Checked.{Checked}
 use Rattle.model.proofs.Accepted.{mod-slot}
 use Rattle.buffers_memory.specs.Memory.{memoryLength, within, written}
 use Rattle.buffers_memory.proofs.Written.{Place}
@@ -55,22 +56,22 @@ module _ (files : Files) (values : List ℕ) (e : values ≡ listed 4097 (timeZe
   pub values-none : getD values 0 0 ≡ 0
   values-none = array-at (timeZero files) values e 0 (omega arith) ∙ zero-is files
 
-  module _ (accepted : netCheck 4096 net ≡ pass) where
+  module _ (checked : Checked net) where
     pub panel-zeroth : panelWith net modfile (valueIn values) ≡ panelOf files
     unfolding panelOf panelWith
     panel-zeroth =
         listed-same panelLength _ _
         (λ a b. panel-same net (modProcessors modfile) (modSlots modfile) (placeOf modfile) (valueIn values) (a % 10) (placeOf modfile) (timeZero files)
-        (λ s l h. refl) (λ s l h. array-at (timeZero files) values e s (in-array net accepted s h)) (a / 10))
+        (λ s l h. refl) (λ s l h. array-at (timeZero files) values e s (in-array net checked s h)) (a / 10))
 
     value-same : (s : ℕ) → s ≤ netSize net → valueOf (valueIn values) s ≡ valueOf (start (networkOf files) (givenOf files)) s
     value-same zero h = refl
     value-same (suc s) h =
-        array-at (timeZero files) values e (suc s) (in-array net accepted (suc s) h) ∙ zeroth-is files (suc s) (omega arith) h
+        array-at (timeZero files) values e (suc s) (in-array net checked (suc s) h) ∙ zeroth-is files (suc s) (omega arith) h
 
     module _ (m : modCheck (networkOf files) modfile ≡ pass) where
       abbrev fits : ModuleChecked modfile
-      fits = schedules net modfile accepted m
+      fits = schedules net modfile checked m
 
       local-same : (p k : ℕ) → p < modProcessors modfile → k < modSlots modfile
           → valueOf (valueIn values) (moduleOf modfile .signal p k) ≡ valueOf (start (networkOf files) (givenOf files)) (moduleOf modfile .signal p k)

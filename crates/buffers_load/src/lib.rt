@@ -5,9 +5,10 @@ ghost use lib.ListN.{length};
 ghost use Rattle.logic.specs.Listed.{listed};
 ghost use Rattle.model.specs.Refusal.{pass};
 ghost use Rattle.model.specs.Files.{filesOf};
-ghost use Rattle.model.specs.Netlist.{network, netCheck};
+ghost use Rattle.model.specs.Netlist.{network};
 ghost use Rattle.model.specs.Stimulus.{stimCheck};
 ghost use Rattle.model.specs.ModuleFile.{modCheck};
+ghost use Rattle.model.specs.Checked.{Checked};
 ghost use Rattle.buffers_memory.specs.Memory.{memoryLength};
 ghost use Rattle.buffers_tables.specs.Panel.{panelLength};
 ghost use Rattle.buffers_tables.specs.Program.{programLength};
@@ -33,7 +34,7 @@ pub fn load(
     program: &mut [u8],
     memory: &mut [u8],
 )
-    requires { ⌜ netCheck 4096 (now net) ≡ pass ⌝ }
+    requires { ⌜ Checked (now net) ⌝ }
     requires { ⌜ modCheck (network (now net)) (now modfile) ≡ pass ⌝ }
     requires { ⌜ stimCheck (network (now net)) (now stim) ≡ pass ⌝ }
     requires { ⌜ (length (now panel) ≡ panelLength) × (length (now program) ≡ programLength) × (length (now memory) ≡ memoryLength) ⌝ }

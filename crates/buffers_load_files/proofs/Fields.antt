@@ -6,17 +6,19 @@ use mathlib.Core.List.{List}
 use native.Mathlib.Omega.{arith}
 use Rattle.fields.specs.Field.{isFieldAt}
 use Rattle.model.specs.Refusal.{pass}
-use Rattle.model.specs.Netlist.{network, netCheck}
+use Rattle.model.specs.Netlist.{network}
 use Rattle.model.specs.Module.{At}
 use Rattle.model.specs.ModuleFile.{modLine, modField, modProcessors, modSlots, modIndex, moduleOf, modCheck}
-use Rattle.model.proofs.Accepted.{SlotRight, net-size, mod-processors, mod-slots, mod-lines, mod-slot}
+use Rattle.model.specs.Checked.{Checked}
+use Rattle.model.proofs.Checked.{checked-size}
+use Rattle.model.proofs.Accepted.{SlotRight, mod-processors, mod-slots, mod-lines, mod-slot}
 use Rattle.model.proofs.RightLine.{line-field}
 use Rattle.buffers_load_files.specs.Checked.{ModuleChecked}
 
--- a MOD that is accepted with an accepted NET
-pub schedules : (net modfile : List ℕ) → netCheck 4096 net ≡ pass → modCheck (network net) modfile ≡ pass → ModuleChecked modfile
+-- a MOD that is accepted with a checked NET
+pub schedules : (net modfile : List ℕ) → Checked net → modCheck (network net) modfile ≡ pass → ModuleChecked modfile
 unfolding network
-schedules net modfile n m = record { network = network net; few = net-size 4096 net n .1; passes = m }
+schedules net modfile n m = record { network = network net; few = checked-size net n .1; passes = m }
 
 module _ {modfile : List ℕ} (s : ModuleChecked modfile) where
   pub processors-range : (1 ≤ modProcessors modfile) × (modProcessors modfile ≤ 16)

@@ -3,14 +3,14 @@
 
 ghost use mathlib.Core.Path.{_≡_};
 ghost use Prim.Native.Nat.{_<_, _≤_};
-ghost use Rattle.model.specs.Refusal.{pass};
-ghost use Rattle.model.specs.Netlist.{netSize, netCheck};
+ghost use Rattle.model.specs.Netlist.{netSize};
 ghost use Rattle.model.specs.ModuleFile.{modProcessors, modSlots, modIndex, modField};
+ghost use Rattle.model.specs.Checked.{Checked};
 ghost use Rattle.buffers_load_files.specs.Checked.{ModuleChecked};
 
 // N, from line 1 of NET.
 pub fn signals_of(net: &[u8]) -> usize
-    requires { ⌜ netCheck 4096 (now net) ≡ pass ⌝ }
+    requires { ⌜ Checked (now net) ⌝ }
     ensures { λ r. ⌜ (r ≡ netSize (now (net .entry))) × (1 ≤ r) × (r ≤ 4096) ⌝ }
 {
     fields::number_at(net, 6) as usize

@@ -13,13 +13,13 @@ use Rattle.logic.specs.Choice.{if_then_else_}
 use Rattle.logic.specs.Listed.{listed}
 use Rattle.gates.specs.Function.{isFunction}
 use Rattle.gates.specs.Translation.{isTranslation}
-use Rattle.fields.specs.Field.{isFieldAt, numberAt}
-use Rattle.model.specs.Refusal.{pass}
+use Rattle.fields.specs.Field.{numberAt}
 use Rattle.model.specs.Network.{input, unitDelay, rankOrder}
-use Rattle.model.specs.Netlist.{netField, netSize, network, netCheck}
-use Rattle.model.proofs.Accepted.{net-lines, net-signal, SignalRight}
-use Rattle.model.proofs.RightLine.{line-field}
+use Rattle.model.specs.Netlist.{netField, netSize, network}
 use Rattle.model.specs.ModuleFile.{modProcessors, modSlots}
+use Rattle.model.specs.Checked.{Checked}
+use Rattle.model.proofs.Accepted.{SignalRight}
+use Rattle.model.proofs.Checked.{checked-signal}
 use Rattle.buffers_tables.specs.Panel.{panelLength}
 use Rattle.buffers_load_files.specs.Loaded.{placeOf, headBytes, signalBytes, panelByte, panelWith}
 use Rattle.buffers_load_files.specs.Checked.{valueIn}
@@ -40,14 +40,11 @@ head-zeros n p c (suc (suc (suc (suc (suc (suc (suc (suc zero)))))))) d0 d1 d2 d
 head-zeros n p c (suc (suc (suc (suc (suc (suc (suc (suc (suc zero))))))))) d0 d1 d2 d3 d4 d7 h = refl
 head-zeros n p c (suc (suc (suc (suc (suc (suc (suc (suc (suc (suc column)))))))))) d0 d1 d2 d3 d4 d7 h = absurd (omega arith)
 
--- the fields of a signal of an accepted NET: they are right where they are read, and kind and codes are below 256
-module _ (net : List ℕ) (accepted : netCheck 4096 net ≡ pass) {s : ℕ} (low : 1 ≤ s) (high : s ≤ netSize net) where
+-- the fields of a signal of a checked NET: kind and codes are below 256
+module _ (net : List ℕ) (checked : Checked net) {s : ℕ} (low : 1 ≤ s) (high : s ≤ netSize net) where
   right : SignalRight net s
   unfolding network
-  right = net-signal 4096 net accepted s (record { low = low; high = high })
-
-  pub net-field : (column x : ℕ) → column < 12 → x ≡ 73 * s + 6 * column → isFieldAt net x ≡ true
-  net-field column x h e = rw e (line-field net (73 * s) 12 (net-lines 4096 net accepted s high) column h)
+  right = checked-signal net checked s (record { low = low; high = high })
 
   pub kind-small : netField net s 0 < 256
   kind-small =
@@ -130,14 +127,14 @@ module _ (net : List ℕ) (P C : ℕ) (place hand : ℕ → ℕ) (column : ℕ) 
       go false e = refl
 
 -- the panel filled by an array of the signals' lines
-pub panel-placed : (net modfile : List ℕ) → netCheck 4096 net ≡ pass → (P C : ℕ) (places : List ℕ) (hand : ℕ → ℕ) → P ≡ modProcessors modfile
+pub panel-placed : (net modfile : List ℕ) → Checked net → (P C : ℕ) (places : List ℕ) (hand : ℕ → ℕ) → P ≡ modProcessors modfile
     → C ≡ modSlots modfile → places ≡ listed 4097 (placeOf modfile)
     → (panel : List ℕ) → panel ≡ listed panelLength (λ a. panelByte net P C (valueIn places) hand (a / 10) (a % 10))
     → panel ≡ panelWith net modfile hand
 unfolding panelWith
-panel-placed net modfile accepted P C places hand p c e panel is =
+panel-placed net modfile checked P C places hand p c e panel is =
     is
     ∙ rw (p, c)
     (listed-same panelLength _ _
     (λ a b. panel-same net (modProcessors modfile) (modSlots modfile) (valueIn places) hand (a % 10) (placeOf modfile) hand
-    (λ s l h. array-at (placeOf modfile) places e s (in-array net accepted s h)) (λ s l h. refl) (a / 10)))
+    (λ s l h. array-at (placeOf modfile) places e s (in-array net checked s h)) (λ s l h. refl) (a / 10)))

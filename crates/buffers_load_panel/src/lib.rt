@@ -4,8 +4,8 @@ ghost use mathlib.Core.Path.{_≡_};
 ghost use Prim.Native.Nat.{ℕ, _*_, _/_, _%_, _<_, _≤_};
 ghost use lib.ListN.{length, getD};
 ghost use Rattle.logic.specs.Listed.{listed};
-ghost use Rattle.model.specs.Refusal.{pass};
-ghost use Rattle.model.specs.Netlist.{netSize, netCheck};
+ghost use Rattle.model.specs.Netlist.{netSize};
+ghost use Rattle.model.specs.Checked.{Checked};
 ghost use Rattle.buffers_tables.specs.Panel.{panelLength};
 ghost use Rattle.buffers_load_files.specs.Loaded.{placeOf, headBytes, signalBytes, panelByte, panelWith};
 ghost use Rattle.buffers_load_files.specs.Checked.{ModuleChecked, valueIn};
@@ -61,7 +61,7 @@ fn head_byte(signals: usize, processors: usize, slots: usize, column: usize) -> 
 
 // One of the ten bytes of a signal: its codes as in NET, its value in hand, the processor and the slot of its line.
 fn signal_byte(net: &[u8], signal: usize, value: u8, line: usize, slots: usize, column: usize) -> u8
-    requires { ⌜ netCheck 4096 (now net) ≡ pass ⌝ }
+    requires { ⌜ Checked (now net) ⌝ }
     requires { ⌜ (1 ≤ signal) × (signal ≤ netSize (now net)) × (1 ≤ slots) × (slots ≤ 256) × (line < 16 * slots) × (column < 10) ⌝ }
     ensures { λ r. ⌜ r ≡ getD (signalBytes (now (net .entry)) signal value (line / slots) (line % slots)) column 0 ⌝ }
 {
@@ -90,7 +90,7 @@ fn panel_byte(
     slots: usize,
     a: usize,
 ) -> u8
-    requires { ⌜ netCheck 4096 (now net) ≡ pass ⌝ }
+    requires { ⌜ Checked (now net) ⌝ }
     requires { ⌜ (signals ≡ netSize (now net)) × (processors ≤ 16) × (1 ≤ slots) × (slots ≤ 256) × (a < panelLength) ⌝ }
     requires { ⌜ (length (now values) ≡ 4097) × LineNumbers slots (now places) ⌝ }
     ensures { λ r. ⌜ r ≡ panelByte (now (net .entry)) processors slots (valueIn (now (places .entry))) (valueIn (now (values .entry))) (a / 10) (a % 10) ⌝ }
@@ -121,7 +121,7 @@ fn fill_panel(
     slots: usize,
     panel: &mut [u8],
 )
-    requires { ⌜ netCheck 4096 (now net) ≡ pass ⌝ }
+    requires { ⌜ Checked (now net) ⌝ }
     requires { ⌜ (processors ≤ 16) × (1 ≤ slots) × (slots ≤ 256) × (length (now panel) ≡ panelLength) ⌝ }
     requires { ⌜ (length (now values) ≡ 4097) × LineNumbers slots (now places) ⌝ }
     ensures { λ _. ⌜ now (panel .exit) ≡ listed panelLength (λ a. panelByte (now (net .entry)) processors slots (valueIn (now (places .entry))) (valueIn (now (values .entry))) (a / 10) (a % 10)) ⌝ }
@@ -136,7 +136,7 @@ fn fill_panel(
 
 // The panel as the session opens, with given values in hand.
 pub fn load_panel(net: &[u8], modfile: &[u8], values: &[u8], panel: &mut [u8])
-    requires { ⌜ netCheck 4096 (now net) ≡ pass ⌝ }
+    requires { ⌜ Checked (now net) ⌝ }
     requires { ⌜ ModuleChecked (now modfile) ⌝ }
     requires { ⌜ (length (now values) ≡ 4097) × (length (now panel) ≡ panelLength) ⌝ }
     ensures { λ _. ⌜ now (panel .exit) ≡ panelWith (now (net .entry)) (now (modfile .entry)) (valueIn (now (values .entry))) ⌝ }

@@ -15,10 +15,12 @@ use Rattle.logic.proofs.Listed.{listed-length, listed-at, is-listed}
 use Rattle.logic.proofs.Tests.{and-true}
 use Rattle.model.specs.Refusal.{pass}
 use Rattle.model.specs.Network.{isSignal}
-use Rattle.model.specs.Netlist.{network, netSize, netCheck}
+use Rattle.model.specs.Netlist.{network, netSize}
 use Rattle.model.specs.Value.{start}
 use Rattle.model.specs.Stimulus.{stimTime, stimSignal, stimValue, stimCheck, stimCount, lastGiven, held}
-use Rattle.model.proofs.Accepted.{stim-right, net-size}
+use Rattle.model.specs.Checked.{Checked}
+use Rattle.model.proofs.Accepted.{stim-right}
+use Rattle.model.proofs.Checked.{checked-size}
 use Rattle.file_stim.specs.declared.Cursor.{Cursor}
 use Rattle.file_stim.proofs.Steps.{GivenAt}
 use Rattle.file_stim.proofs.Passed.{nothing-later}
@@ -58,7 +60,7 @@ module _ (net stim : List ℕ) where
         given = λ s h. rw e (listed-at n _ s (omega arith) ∙ ap (λ (x : ℕ). undefinedTo x s) q ∙ none-given s);
       }
 
-  module _ (net-passes : netCheck 4096 net ≡ pass) (passes : stimCheck (network net) stim ≡ pass) where
+  module _ (checked : Checked net) (passes : stimCheck (network net) stim ≡ pass) where
     -- the signal of a line before the end line
     module _ (line : ℕ) (h : line < stimCount stim) where
       pub line-signal : isSignal (network net) (stimSignal stim line) ≡ true
@@ -69,7 +71,7 @@ module _ (net stim : List ℕ) where
 
       pub line-signal-few : stimSignal stim line < 4097
       unfolding network
-      line-signal-few = omega (arith, stim-right (network net) stim passes .given line h .signal .high, net-size 4096 net net-passes)
+      line-signal-few = omega (arith, stim-right (network net) stim passes .given line h .signal .high, checked-size net checked)
 
       pub line-value-few : stimValue stim line < 256
       line-value-few = omega (arith, stim-right (network net) stim passes .given line h .value)

@@ -4,9 +4,10 @@ ghost use mathlib.Core.Path.{_≡_};
 ghost use lib.ListN.{length};
 ghost use Rattle.logic.specs.Listed.{listed};
 ghost use Rattle.model.specs.Refusal.{pass};
-ghost use Rattle.model.specs.Netlist.{network, netCheck};
+ghost use Rattle.model.specs.Netlist.{network};
 ghost use Rattle.model.specs.Stimulus.{stimCheck};
 ghost use Rattle.buffers_load_files.specs.Loaded.{timeZeroFrom};
+ghost use Rattle.model.specs.Checked.{Checked};
 ghost use Rattle.buffers_load_values.specs.Values.{undefinedTo};
 use file_stim::Cursor;
 use file_stim::Step;
@@ -37,7 +38,7 @@ fn mark_undefined(signals: usize, values: &mut [u8])
 
 // "At t = 0 every signal has its given value, or U". The lines of time 0 stand first, since times rise.
 pub fn load_values(net: &[u8], stim: &[u8], values: &mut [u8])
-    requires { ⌜ netCheck 4096 (now net) ≡ pass ⌝ }
+    requires { ⌜ Checked (now net) ⌝ }
     requires { ⌜ stimCheck (network (now net)) (now stim) ≡ pass ⌝ }
     requires { ⌜ length (now values) ≡ 4097 ⌝ }
     ensures { λ _. ⌜ now (values .exit) ≡ listed 4097 (timeZeroFrom (now (net .entry)) (now (stim .entry))) ⌝ }

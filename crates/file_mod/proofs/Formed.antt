@@ -6,10 +6,11 @@ use mathlib.Core.List.{List}
 use Rattle.fields.specs.Field.{numberAt}
 use Rattle.model.specs.Refusal.{Check, pass, first}
 use Rattle.model.specs.Network.{Network}
-use Rattle.model.specs.Netlist.{netSize, network, netCheck}
+use Rattle.model.specs.Netlist.{netSize, network}
 use Rattle.model.specs.ModuleFile.{modProcessors, modSlots, modHeader, modSlot, eachLine, modSurplus, modCheck}
 use Rattle.model.proofs.Refusals.{first-left, first-right, first-first}
-use Rattle.model.proofs.Accepted.{net-size}
+use Rattle.model.specs.Checked.{Checked}
+use Rattle.model.proofs.Checked.{checked-size}
 use Rattle.file_mod_lines.specs.declared.ModAnswer.{ModAnswer}
 use Rattle.file_mod_lines.specs.Answer.{Answers}
 use Rattle.file_mod_lines.specs.Form.{formCheck}
@@ -19,22 +20,22 @@ use Rattle.file_mod_table.specs.Line.{LinesLaid}
 use Rattle.file_mod_table.proofs.Slots.{laid-slot}
 use Rattle.file_mod.specs.Formed.{Formed}
 
-pub signals-few : (net : List ℕ) (x : ℕ) → netCheck 4096 net ≡ pass → x ≡ netSize net → x ≤ 4096
-signals-few net x accepted e = rw e (net-size 4096 net accepted .1)
+pub signals-few : (net : List ℕ) (x : ℕ) → Checked net → x ≡ netSize net → x ≤ 4096
+signals-few net x net-checked e = rw e (checked-size net net-checked .1)
 
-pub formed : (net l : List ℕ) (p c : ℕ) → netCheck 4096 net ≡ pass → formCheck (network net) l ≡ pass → p ≡ modProcessors l
+pub formed : (net l : List ℕ) (p c : ℕ) → Checked net → formCheck (network net) l ≡ pass → p ≡ modProcessors l
     → c ≡ modSlots l → Formed net l p c
 unfolding network
-formed net l p c accepted right processors slots =
+formed net l p c net-checked right processors slots =
     let laid : LinesLaid l p c =
     record {
       sized = header-sized l p c (first-left _ _ right) processors slots;
       network = network net;
-      few = net-size 4096 net accepted .1;
+      few = checked-size net net-checked .1;
       lines = first-left _ _ (first-right _ _ right);
     } in
     record {
-      accepted = accepted;
+      checked = net-checked;
       laid = laid;
       within = λ q i low-q low-i. laid-slot l p c q i laid low-q low-i .signal;
     }

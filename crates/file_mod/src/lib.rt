@@ -4,11 +4,11 @@ use file_mod_lines::ModAnswer;
 ghost use mathlib.Core.Path.{_≡_};
 ghost use Prim.Native.Nat.{ℕ, _+_, _*_, _<_, _≤_};
 ghost use lib.ListN.{length, getD};
-ghost use Rattle.model.specs.Refusal.{pass};
 ghost use Rattle.model.specs.Network.{Network};
-ghost use Rattle.model.specs.Netlist.{netSize, network, netCheck};
+ghost use Rattle.model.specs.Netlist.{netSize, network};
 ghost use Rattle.model.specs.Module.{placements};
 ghost use Rattle.model.specs.ModuleFile.{modField, modProcessors, modSlots, moduleOf, placed, modCheck};
+ghost use Rattle.model.specs.Checked.{Checked};
 ghost use Rattle.file_mod_lines.specs.Answer.{Answers};
 ghost use Rattle.file_mod_table.specs.Line.{LinesLaid, LineOf};
 ghost use Rattle.file_mod.specs.Formed.{Formed};
@@ -76,7 +76,7 @@ fn check_placements(modfile: &[u8], signals: u16, processors: u16, slots: u16) -
 // A line passes a test.
 fn line_right(test: Test, net: &[u8], modfile: &[u8], slots: u16, processor: u16, slot: u16) -> bool
     requires { ⌜ LineOf (now modfile) slots processor slot ⌝ }
-    requires { ⌜ netCheck 4096 (now net) ≡ pass ⌝ }
+    requires { ⌜ Checked (now net) ⌝ }
     requires { ⌜ moduleOf (now modfile) .signal processor slot ≤ netSize (now net) ⌝ }
     ensures { λ r. ⌜ r ≡ testRight test (network (now (net .entry))) (moduleOf (now (modfile .entry))) processor slot ⌝ }
 {
@@ -139,7 +139,7 @@ fn check_module(net: &[u8], modfile: &[u8], signals: u16, processors: u16, slots
 
 // MOD's check, NET being accepted: 20 and 21 by line, then 22, 24, 25 and 23.
 pub fn check_mod(net: &[u8], modfile: &[u8]) -> ModAnswer
-    requires { ⌜ netCheck 4096 (now net) ≡ pass ⌝ }
+    requires { ⌜ Checked (now net) ⌝ }
     ensures { λ r. ⌜ Answers (modProcessors (now (modfile .entry))) (modSlots (now (modfile .entry))) (modCheck (network (now (net .entry))) (now (modfile .entry))) r ⌝ }
 {
     let signals = fields::number_at(net, 6);

@@ -1,7 +1,7 @@
 -- 23, part by part: what each part wants of the location that it names, and what is wanted of a line's operand.
 use Prim.Native.Nat.{ℕ, _+_, _*_, _<_, _≤_}
 use mathlib.Core.Path.{_≡_, refl, sym, ap, _∙_}
-use mathlib.Core.Bool.{Bool, true, false}
+use mathlib.Core.Bool.{Bool, false}
 use mathlib.Core.List.{List}
 use native.Mathlib.Omega.{arith}
 use native.Mathlib.Nat.{add-zero}
@@ -12,17 +12,15 @@ use Rattle.logic.specs.Choice.{if_then_else_}
 use Rattle.model.specs.Network.{Network, input, unitDelay, rankOrder}
 use Rattle.model.specs.Module.{Module, localEarlier, localPresent, switchEarlier, switchPresent, noPart, reads, mustBeNone, operandRight}
 use Rattle.model.specs.ModuleFile.{moduleOf}
-use Rattle.model.specs.Netlist.{netSize, netLine, network, netCheck}
-use Rattle.model.specs.Refusal.{pass}
-use Rattle.model.proofs.Accepted.{net-lines}
-use Rattle.fields.specs.Field.{numberAt, isFieldAt}
+use Rattle.model.specs.Netlist.{netSize, network}
+use Rattle.model.specs.Checked.{Checked}
+use Rattle.fields.specs.Field.{numberAt}
 use Rattle.instruction.specs.Operand.{partOf, locationOf}
 use Rattle.instruction.specs.Instruction.{operandNamed, instructionOf}
 use Rattle.instruction.specs.declared.Instruction.{Instruction}
 use Rattle.instruction.specs.declared.Operand.{Operand}
 use Rattle.instruction.specs.declared.Operand.the-variants.{LocalEarlier, LocalPresent, SwitchEarlier, SwitchPresent, None}
 use Rattle.instruction.proofs.Pairs.{part-of-pair, location-of-pair}
-use Rattle.file_mod_lines.proofs.Header.{field-of-line}
 use Rattle.file_mod_table.specs.Line.{LineOf}
 use Rattle.file_mod_table.proofs.Slots.{slot-laid, operand-low, line-beside}
 use Rattle.file_mod_sources.specs.Asked.{OperandOf}
@@ -61,17 +59,12 @@ pub line-named : (l : List ℕ) (c q : ℕ) (a : Operand) (k : ℕ) → LineOf l
 line-named l c q a k line e = line-beside l c q (locationOf a) line k (omega (arith, line .slot, e))
 
 -- the operands of a line that was read as an instruction
-pub operand-of : (net l : List ℕ) (c p i : ℕ) → LineOf l c p i → netCheck 4096 net ≡ pass → moduleOf l .signal p i ≤ netSize net
+pub operand-of : (net l : List ℕ) (c p i : ℕ) → LineOf l c p i → Checked net → moduleOf l .signal p i ≤ netSize net
     → (r : Instruction) → r ≡ instructionOf (moduleOf l) p i → (j : ℕ) → j < 4 → (a : Operand) → a ≡ operandNamed (moduleOf l) p i j
     → OperandOf net l c p i (r .signal) j a
-operand-of net l c p i line accepted within r e j low a named =
+operand-of net l c p i line checked within r e j low a named =
     let placed : r .signal ≡ moduleOf l .signal p i = ap (λ (x : Instruction). x .signal) e in
-    record { line = line; accepted = accepted; placed = placed; within = omega arith; low = low; named = named }
-
--- a field of NET's line of a signal
-pub net-field : (net : List ℕ) (s : ℕ) → netCheck 4096 net ≡ pass → s ≤ netSize net → (k x : ℕ) → k < 12 → x ≡ 73 * s + 6 * k
-    → isFieldAt net x ≡ true
-net-field net s accepted low k x small e = field-of-line net (netLine s) 12 (net-lines 4096 net accepted s low) k x small e
+    record { line = line; checked = checked; placed = placed; within = omega arith; low = low; named = named }
 
 -- operand j of slot i of processor p, where the signal s is placed: what is wanted of it, by the numbers of NET's line of s
 module _ (net l : List ℕ) (c p i s j : ℕ) (a : Operand) (h : OperandOf net l c p i s j a) where

@@ -5,10 +5,10 @@ ghost use mathlib.Core.Path.{_≡_};
 ghost use Prim.Native.Nat.{_≤_};
 ghost use lib.Dec.{eqb};
 ghost use Rattle.logic.specs.Test.{all};
-ghost use Rattle.model.specs.Refusal.{pass};
-ghost use Rattle.model.specs.Netlist.{netSize, network, netCheck};
+ghost use Rattle.model.specs.Netlist.{netSize, network};
 ghost use Rattle.model.specs.Module.{localEarlier, localPresent, switchEarlier, switchPresent, noPart, sendRight, receptionRight, operandRight};
 ghost use Rattle.model.specs.ModuleFile.{moduleOf};
+ghost use Rattle.model.specs.Checked.{Checked};
 ghost use Rattle.instruction.specs.Operand.{partOf, locationOf};
 ghost use Rattle.file_mod_table.specs.Line.{LineOf};
 ghost use Rattle.file_mod_sources.specs.Asked.{OperandOf};
@@ -196,7 +196,7 @@ fn operand_right(
 // 23: the four operands of the line of a processor and a slot.
 pub fn operands_right(net: &[u8], modfile: &[u8], slots: u16, processor: u16, slot: u16) -> bool
     requires { ⌜ LineOf (now modfile) slots processor slot ⌝ }
-    requires { ⌜ netCheck 4096 (now net) ≡ pass ⌝ }
+    requires { ⌜ Checked (now net) ⌝ }
     requires { ⌜ moduleOf (now modfile) .signal processor slot ≤ netSize (now net) ⌝ }
     ensures { λ r. ⌜ r ≡ all 4 (operandRight (network (now (net .entry))) (moduleOf (now (modfile .entry))) processor slot) ⌝ }
 {

@@ -5,10 +5,10 @@ ghost use mathlib.Core.Bool.{true};
 ghost use Prim.Native.Nat.{_<_};
 ghost use lib.Dec.{eqb};
 ghost use Rattle.fields.specs.Line.{isLineAt};
-ghost use Rattle.model.specs.Refusal.{pass};
 ghost use Rattle.model.specs.Network.{isSignal, input};
-ghost use Rattle.model.specs.Netlist.{network, netCheck};
+ghost use Rattle.model.specs.Netlist.{network};
 ghost use Rattle.model.specs.Stimulus.{stimLine, stimLimit};
+ghost use Rattle.model.specs.Checked.{Checked};
 ghost use Rattle.file_stim.specs.Answer.{Answers};
 ghost use Rattle.file_stim.specs.Stepping.{stepAt};
 ghost use Rattle.file_stim.specs.Judging.{ends, rises, judgedEnd, judgedGiven, judged};
@@ -85,7 +85,7 @@ fn judge_end(index: u16, last: bool, before: Numbers, here: Numbers) -> StimAnsw
 
 // "A signal is 1 to N".
 fn is_signal(net: &[u8], s: u16) -> bool
-    requires { ⌜ netCheck 4096 (now net) ≡ pass ⌝ }
+    requires { ⌜ Checked (now net) ⌝ }
     ensures { λ r. ⌜ r ≡ isSignal (network (now (net .entry))) s ⌝ }
 {
     if s == 0 {
@@ -96,7 +96,7 @@ fn is_signal(net: &[u8], s: u16) -> bool
 
 // NET has the signal s as an input. Its kind is read in place, the first field of its line.
 fn is_input(net: &[u8], s: u16) -> bool
-    requires { ⌜ netCheck 4096 (now net) ≡ pass ⌝ }
+    requires { ⌜ Checked (now net) ⌝ }
     requires { ⌜ isSignal (network (now net)) s ≡ true ⌝ }
     ensures { λ r. ⌜ r ≡ eqb (network (now (net .entry)) .kind s) input ⌝ }
 {
@@ -105,7 +105,7 @@ fn is_input(net: &[u8], s: u16) -> bool
 
 // A line that gives a value: 31 where the signal, the value or the order is wrong, then 32 for a gate at a later time.
 fn judge_given(net: &[u8], index: u16, before: Numbers, here: Numbers) -> Judged
-    requires { ⌜ netCheck 4096 (now net) ≡ pass ⌝ }
+    requires { ⌜ Checked (now net) ⌝ }
     requires { ⌜ index < stimLimit ⌝ }
     ensures { λ r. ⌜ r ≡ judgedGiven (network (now (net .entry))) index before here ⌝ }
 {
@@ -129,7 +129,7 @@ fn judge_given(net: &[u8], index: u16, before: Numbers, here: Numbers) -> Judged
 
 // A right line, the last of the file or not, by its numbers and those of the line before it, zeros before line 1.
 fn judge(net: &[u8], index: u16, last: bool, before: Numbers, here: Numbers) -> Judged
-    requires { ⌜ netCheck 4096 (now net) ≡ pass ⌝ }
+    requires { ⌜ Checked (now net) ⌝ }
     requires { ⌜ index < stimLimit ⌝ }
     ensures { λ r. ⌜ r ≡ judged (network (now (net .entry))) index last before here ⌝ }
 {
@@ -142,7 +142,7 @@ fn judge(net: &[u8], index: u16, last: bool, before: Numbers, here: Numbers) -> 
 // STIM's check, NET being accepted: "the first bad line", 30 before 31 before 32. In the loop the answer is that line index + 1
 // is misformed or missing, so that a field that is wrong only has to leave it.
 pub fn check_stim(net: &[u8], stim: &[u8]) -> StimAnswer
-    requires { ⌜ netCheck 4096 (now net) ≡ pass ⌝ }
+    requires { ⌜ Checked (now net) ⌝ }
     ensures { λ r. ⌜ Answers (network (now (net .entry))) (now (stim .entry)) r ⌝ }
 {
     let mut answer = StimAnswer::Misformed(1);

@@ -24,7 +24,7 @@ use Rattle.model.proofs.Machine.{Near}
 use Rattle.model.proofs.Session.{Like}
 use Rattle.model.proofs.Keeping.{kept-table, kept-near, keeps}
 use Rattle.model.proofs.Value.{start-input}
-use Rattle.model.proofs.Accepted.{net-accepted, net-size}
+use Rattle.model.proofs.Checked.{files-checked, checked-size}
 use Rattle.model.proofs.Demands.{accepted-formed, accepted-acyclic, accepted-scheduled, placeOf, placed-there}
 use Rattle.model.proofs.Traces.{demand-3}
 use Rattle.buffers_memory.specs.Memory.{memoryLength, within}
@@ -254,7 +254,7 @@ module _ (files : Files) (accepted : Accepted panelLimit files) where
         })
       where
         size : (1 ≤ n .size) × (n .size ≤ 4096)
-        size = net-size panelLimit (files .NET) (net-accepted panelLimit files accepted)
+        size = checked-size (files .NET) (files-checked panelLimit (omega arith) files accepted)
 
         opened-head : Like n (headIn (opened .panel)) (fresh (givenOf files))
         opened-head =

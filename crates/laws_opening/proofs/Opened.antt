@@ -17,13 +17,15 @@ use Rattle.model.specs.Refusal.{pass}
 use Rattle.model.specs.Files.{Files}
 use Rattle.model.specs.Acceptance.{panelLimit, networkOf, moduleOfFiles, givenOf, Accepted}
 use Rattle.model.specs.Network.{Signal, input, unitDelay, rankOrder}
-use Rattle.model.specs.Netlist.{netField, netSize, network, netCheck}
+use Rattle.model.specs.Netlist.{netField, netSize, network}
 use Rattle.model.specs.Module.{Module, At}
 use Rattle.model.specs.ModuleFile.{modProcessors, modSlots, moduleOf, modCheck}
 use Rattle.model.specs.Value.{start}
 use Rattle.model.specs.Machine.{opening}
 use Rattle.model.proofs.Value.{start-code}
-use Rattle.model.proofs.Accepted.{net-accepted, mod-accepted, stim-accepted, net-size, net-signal, SignalRight, Located, mod-processors, mod-slots, mod-slot, mod-scheduled, stim-right, held-code}
+use Rattle.model.proofs.Accepted.{mod-accepted, stim-accepted, SignalRight, Located, mod-processors, mod-slots, mod-slot, mod-scheduled, stim-right, held-code}
+use Rattle.model.specs.Checked.{Checked}
+use Rattle.model.proofs.Checked.{files-checked, checked-size, checked-signal}
 use Rattle.model.proofs.Machine.{Small, opening-small}
 use Rattle.buffers_memory.specs.Memory.{blank, place, within}
 use Rattle.buffers_memory.proofs.Written.{Place, written-at}
@@ -61,8 +63,8 @@ module _ (files : Files) (accepted : Accepted panelLimit files) where
   abbrev modfile : List ℕ
   modfile = files .MOD
 
-  n : netCheck 4096 net ≡ pass
-  n = net-accepted panelLimit files accepted
+  n : Checked net
+  n = files-checked panelLimit (omega arith) files accepted
 
   m : modCheck (networkOf files) modfile ≡ pass
   m = mod-accepted panelLimit files accepted
@@ -110,7 +112,7 @@ module _ (files : Files) (accepted : Accepted panelLimit files) where
       let processors = processors-is in
       let slots = slots-is in
       let fresh = loaded-head files accepted in
-      let size = net-size 4096 net n in
+      let size = checked-size net n in
       let few = mod-processors (networkOf files) modfile m in
       let short = mod-slots (networkOf files) modfile m in
       record {
@@ -132,7 +134,7 @@ module _ (files : Files) (accepted : Accepted panelLimit files) where
     is-signal = record { low = low; high = high }
 
     right : SignalRight net s
-    right = net-signal 4096 net n s is-signal
+    right = checked-signal net n s is-signal
 
     code-at : (c : ℕ) → 1 ≤ c → c < 7 → getD panel (10 * s + c) 0 ≡ netField net s (c + 1)
     code-at c l h = signal-byte files accepted s is-signal c _ (omega arith) refl ∙ sym (code-byte net s _ _ _ c l h)

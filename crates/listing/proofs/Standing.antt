@@ -21,8 +21,7 @@ use Rattle.model.specs.Acceptance.{panelLimit, networkOf, moduleOfFiles, Accept
 use Rattle.model.specs.Session.{Head, Watch}
 use Rattle.model.specs.Listing.{valueAt}
 use Rattle.model.proofs.Accepted.{net-accepted, stim-accepted, net-size, stim-right, times-rise}
-use Rattle.buffers_memory.specs.Memory.{memoryOf, MemoryBytes}
-use Rattle.buffers_memory.specs.Memory.{withMemory}
+use Rattle.buffers_memory.specs.Memory.{memoryOf, MemoryBytes, withMemory}
 use Rattle.buffers_tables.specs.Panel.{signalsIn, processorsIn, slotsIn, kindIn, handIn, processorIn}
 use Rattle.buffers_tables.specs.Tables.{networkIn, moduleIn}
 use Rattle.buffers_tables.specs.Holding.{Holding}

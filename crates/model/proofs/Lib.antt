@@ -5,6 +5,7 @@ pub mod Placements
 pub mod Chains
 pub mod Value
 pub mod Accepted
+pub mod Checked
 pub mod Operands
 pub mod Machine
 pub mod Halves

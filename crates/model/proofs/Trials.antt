@@ -11,7 +11,7 @@ use Rattle.fields.specs.Field.{isDigit, afterSpaces, decimal, noLeadingZero, is
 use Rattle.fields.specs.Line.{isLineAt}
 use Rattle.writing.specs.Text.{columnOf, fieldText, lineText}
 use Rattle.model.specs.Refusal.{pass, fail, first, unless, firstBelow}
-use Rattle.model.specs.Network.{isSignal}
+use Rattle.model.specs.Network.{isSignal, unitDelay, rankOrder}
 use Rattle.model.specs.Netlist.{network, tenZeros, netHeader, inputLayout, gateLayout, sourceRight, sourcesRight, netSignal, netSurplus, feeds, chains, onClosedChain, netChains, netCheck}
 use Rattle.model.specs.Value.{evaluate, start, driven, settle, next, VAL, history}
 use Rattle.model.specs.Module.{placements, sendRight, receptionRight, reads, mustBeNone, operandRight}
@@ -20,7 +20,6 @@ use Rattle.model.specs.Stimulus.{isEnd, timeBefore, rising, givesValue, 
 use Rattle.model.specs.Acceptance.{fileCheck}
 use Rattle.model.specs.Listing.{valueAt, joined, listedFirst, listedChange, listedCycle, listingOf, listing, refusalLine, printedFor, printed}
 use Rattle.model.specs.Files.{Files}
-use Rattle.model.specs.Network.{unitDelay, rankOrder}
 
 -- what a computation unfolds
 computing : Unit {0}

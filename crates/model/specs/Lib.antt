@@ -7,6 +7,7 @@ pub mod Module
 pub mod ModuleFile
 pub mod Stimulus
 pub mod Acceptance
+pub mod Checked
 pub mod Machine
 pub mod Halves
 pub mod Session

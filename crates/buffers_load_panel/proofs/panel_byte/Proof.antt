@@ -3,7 +3,7 @@ use mathlib.Core.Path.{_∙_, sym, ap}
 use Prim.Native.Nat.{ℕ, _/_, _%_}
 use native.Mathlib.Omega.{arith}
 use lib.ListN.{getD}
-use Rattle.model.proofs.Accepted.{net-size}
+use Rattle.model.proofs.Checked.{checked-size}
 use Rattle.buffers_load_files.specs.Loaded.{headBytes}
 use Rattle.buffers_load_files.specs.Checked.{valueIn}
 use Rattle.buffers_load_panel.proofs.Panel.{panel-head, panel-above, panel-signal}
@@ -12,7 +12,7 @@ use Rattle.buffers_load_panel.proofs.panel_byte.Statement.{statement}
 use Rattle.buffers_load_panel.proofs.panel_byte.Tie as tie
 
 head-byte-requires : tie.Need-head-byte-requires
-head-byte-requires c κs = let s = c .before .before .before .before in (omega (arith, s .pre .1 .0 .0, net-size 4096 _ (s .pre .0)), s .pre .1 .0 .1, s .pre .1 .0 .3, omega arith)
+head-byte-requires c κs = let s = c .before .before .before .before in (omega (arith, s .pre .1 .0 .0, checked-size _ (s .pre .0)), s .pre .1 .0 .1, s .pre .1 .0 .3, omega arith)
 
 returns : tie.Need-returns
 returns c =

@@ -2,17 +2,17 @@
 use mathlib.Core.Path.{_≡_, _∙_, refl}
 use Prim.Native.Nat.{_*_, _≤_}
 use native.Mathlib.Omega.{arith}
-use Rattle.model.proofs.Accepted.{net-size}
-use Rattle.buffers_load_panel.proofs.Panel.{net-field, kind-small, code-small, kind-byte, code-byte, line-processor, line-slot}
+use Rattle.model.proofs.Checked.{checked-size, checked-field}
+use Rattle.buffers_load_panel.proofs.Panel.{kind-small, code-small, kind-byte, code-byte, line-processor, line-slot}
 use borrow.Author.Needs.{needs}
 use Rattle.buffers_load_panel.proofs.signal_byte.Statement.{statement}
 use Rattle.buffers_load_panel.proofs.signal_byte.Tie as tie
 
 mul-number-at : tie.Need-mul-number-at
-mul-number-at c = let s = c .before .before in omega (arith, net-size 4096 _ (s .pre .0), s .pre .1 .1)
+mul-number-at c = let s = c .before .before in omega (arith, checked-size _ (s .pre .0), s .pre .1 .1)
 
 number-at-requires : tie.Need-number-at-requires
-number-at-requires c κs = let s = c .before .before in net-field _ (s .pre .0) (s .pre .1 .0) (s .pre .1 .1) 0 (73 * s .args .signal) (omega arith) (omega arith)
+number-at-requires c κs = let s = c .before .before in checked-field _ (s .pre .0) _ 0 (73 * s .args .signal) (s .pre .1 .1) (omega arith) (omega arith)
 
 cast-result : tie.Need-cast-result
 cast-result c = let s = c .before .before .before in omega (arith, c .number-at .ensures, kind-byte (s .args .net .now) (s .args .signal), kind-small _ (s .pre .0) (s .pre .1 .0) (s .pre .1 .1))
@@ -21,13 +21,13 @@ returns : tie.Need-returns
 returns c = let s = c .before .before .before in rw (c .before .if1 .taken) (c .number-at .ensures ∙ kind-byte (s .args .net .now) (s .args .signal))
 
 mul-number-at-2 : tie.Need-mul-number-at-2
-mul-number-at-2 c = let s = c .before .before .before in omega (arith, net-size 4096 _ (s .pre .0), s .pre .1 .1)
+mul-number-at-2 c = let s = c .before .before .before in omega (arith, checked-size _ (s .pre .0), s .pre .1 .1)
 
 add-number-at-2 : tie.Need-add-number-at-2
-add-number-at-2 c = let s = c .before .before .before in omega (arith, net-size 4096 _ (s .pre .0), s .pre .1 .1)
+add-number-at-2 c = let s = c .before .before .before in omega (arith, checked-size _ (s .pre .0), s .pre .1 .1)
 
 number-at-requires-2 : tie.Need-number-at-requires-2
-number-at-requires-2 c κs = let s = c .before .before .before in net-field _ (s .pre .0) (s .pre .1 .0) (s .pre .1 .1) _ _ (omega arith) refl
+number-at-requires-2 c κs = let s = c .before .before .before in checked-field _ (s .pre .0) _ _ _ (s .pre .1 .1) (omega arith) refl
 
 cast-result-2 : tie.Need-cast-result-2
 cast-result-2 c =

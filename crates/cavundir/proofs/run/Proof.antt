@@ -2,6 +2,7 @@
 use mathlib.Core.Path.{sym, _∙_}
 use native.Mathlib.Omega.{arith}
 use Rattle.model.proofs.Refusals.{pass-not-fail}
+use Rattle.model.proofs.Checked.{checked-accepted}
 use Rattle.file_net.proofs.Joined.{refusal-of, stage-pass}
 use Rattle.file_mod_lines.proofs.Told.{not-accepted}
 use Rattle.file_mod_lines.proofs.Stages.{passed}
@@ -23,7 +24,9 @@ refuse-requires c κs =
     )
 
 check-mod-requires : tie.Need-check-mod-requires
-check-mod-requires c κs = search (needs, stage-pass)
+check-mod-requires c κs =
+    let net-told = c .before .before .before .before .before .before .before in
+    checked-accepted 4096 (omega arith) _ (stage-pass _ _ _ _ (net-told .before .before .check-net .ensures) (net-told .enum-told .given .1))
 
 refuse-requires-2 : tie.Need-refuse-requires-2
 refuse-requires-2 c κs =
@@ -43,7 +46,7 @@ check-stim-requires : tie.Need-check-stim-requires
 check-stim-requires c κs =
     let mod-told = c .before .before .before .before .before .before .before in
     let net-told = mod-told .before .before .before .before .before .before .before .before .before .before in
-    stage-pass _ _ _ _ (net-told .before .before .check-net .ensures) (net-told .enum-told .given .1)
+    checked-accepted 4096 (omega arith) _ (stage-pass _ _ _ _ (net-told .before .before .check-net .ensures) (net-told .enum-told .given .1))
 
 refuse-requires-3 : tie.Need-refuse-requires-3
 refuse-requires-3 c κs =

@@ -1,7 +1,10 @@
 -- The three checks: each answer carries its refusal, and the ones before it passed.
 use mathlib.Core.Path.{_≡_, _∙_}
+use native.Mathlib.Omega.{arith}
 use Rattle.model.specs.Refusal.{pass}
 use Rattle.model.specs.Netlist.{netCheck}
+use Rattle.model.specs.Checked.{Checked}
+use Rattle.model.proofs.Checked.{checked-accepted}
 use Rattle.file_net.proofs.Joined.{refusal-of, stage-pass}
 use Rattle.file_mod_lines.proofs.Told.{not-accepted}
 use Rattle.file_mod_lines.proofs.Stages.{passed}
@@ -25,8 +28,11 @@ module _ (c : tie.After-enum-told) where
   net-right : netCheck 4096 (entry .args .net .now) ≡ pass
   net-right = stage-pass _ _ _ _ (c .before .before .check-net .ensures) (c .enum-told .given .1)
 
+  net-checked : Checked (entry .args .net .now)
+  net-checked = checked-accepted 4096 (omega arith) _ net-right
+
 check-mod-requires : tie.Need-check-mod-requires
-check-mod-requires c κs = net-right c
+check-mod-requires c κs = net-checked c
 
 returns-2 : tie.Need-returns-2
 returns-2 c =
@@ -37,7 +43,7 @@ returns-2 c =
     (not-accepted _ (c .before .match2 .keys2))
 
 check-stim-requires : tie.Need-check-stim-requires
-check-stim-requires c κs = net-right (c .before .before .before)
+check-stim-requires c κs = net-checked (c .before .before .before)
 
 returns-3 : tie.Need-returns-3
 returns-3 c =

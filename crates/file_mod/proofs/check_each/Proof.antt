@@ -27,7 +27,7 @@ line-right-requires c κs =
     let loop = c .before .before .before .loop in
     let low : loop .k < s .args .processors * s .args .slots = omega (arith, c .before .before .before .before .line-count .ensures .0) in
     let line = line-numbered _ _ _ (s .pre .laid) (loop .k) low in
-    rw (c .before .processor-of .ensures, c .slot-of .ensures) (line, (s .pre .accepted, signal-numbered _ _ _ _ (s .pre) (loop .k) low))
+    rw (c .before .processor-of .ensures, c .slot-of .ensures) (line, (s .pre .checked, signal-numbered _ _ _ _ (s .pre) (loop .k) low))
 
 returns : tie.Need-returns Inv-loop μ-loop
 returns c =

@@ -2,9 +2,9 @@
 use mathlib.Core.Path.{refl}
 use native.Mathlib.Omega.{arith}
 use Rattle.model.specs.Netlist.{network}
+use Rattle.model.proofs.Checked.{checked-field}
 use Rattle.file_mod_lines.proofs.Told.{not-accepted}
 use Rattle.file_mod_lines.proofs.Stages.{refused, passed, sizes-of, after, resized}
-use Rattle.file_mod_sources.proofs.Operands.{net-field}
 use Rattle.file_mod.proofs.Formed.{formed, net-signals, checked}
 use borrow.Author.Needs.{needs}
 use Rattle.file_mod.proofs.check_mod.Statement.{statement}
@@ -13,7 +13,7 @@ use Rattle.file_mod.proofs.check_mod.Tie as tie
 number-at-requires : tie.Need-number-at-requires
 number-at-requires c κs =
     let s = c .before .before in
-    net-field (s .args .net .now) 0 (s .pre) (omega arith) 1 6 (omega arith) refl
+    checked-field (s .args .net .now) (s .pre) 0 1 6 (omega arith) (omega arith) refl
 
 returns : tie.Need-returns
 returns c =

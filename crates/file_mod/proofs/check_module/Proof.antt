@@ -10,7 +10,7 @@ use Rattle.file_mod.proofs.check_module.Tie as tie
 check-placements-requires : tie.Need-check-placements-requires
 check-placements-requires c κs =
     let s = c .before .before in
-    (s .pre .0 .laid, signals-few _ _ (s .pre .0 .accepted) (s .pre .1))
+    (s .pre .0 .laid, signals-few _ _ (s .pre .0 .checked) (s .pre .1))
 
 returns : tie.Need-returns
 returns c =

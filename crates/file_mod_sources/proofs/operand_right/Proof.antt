@@ -3,7 +3,8 @@
 use Prim.Native.Nat.{_+_, _*_}
 use mathlib.Core.Path.{refl, _∙_}
 use native.Mathlib.Omega.{arith}
-use Rattle.file_mod_sources.proofs.Operands.{net-field, operand-line, operand-empty, operand-input, operand-free, operand-reads}
+use Rattle.model.proofs.Checked.{checked-field}
+use Rattle.file_mod_sources.proofs.Operands.{operand-line, operand-empty, operand-input, operand-free, operand-reads}
 use borrow.Author.Needs.{needs}
 use Rattle.file_mod_sources.proofs.operand_right.Statement.{statement}
 use Rattle.file_mod_sources.proofs.operand_right.Tie as tie
@@ -16,7 +17,7 @@ returns c =
 number-at-requires : tie.Need-number-at-requires
 number-at-requires c κs =
     let s = c .before .before .before in
-    net-field _ _ (s .pre .accepted) (s .pre .within) 0 (73 * s .args .signal) (omega arith) (omega arith)
+    checked-field _ (s .pre .checked) _ 0 (73 * s .args .signal) (s .pre .within) (omega arith) (omega arith)
 
 returns-2 : tie.Need-returns-2
 returns-2 c =
@@ -28,7 +29,7 @@ returns-2 c =
 number-at-requires-2 : tie.Need-number-at-requires-2
 number-at-requires-2 c κs =
     let s = c .before .before .before .before .before in
-    net-field _ _ (s .pre .accepted) (s .pre .within) (8 + s .args .j) _ (omega (arith, s .pre .low)) refl
+    checked-field _ (s .pre .checked) _ (8 + s .args .j) _ (s .pre .within) (omega (arith, s .pre .low)) refl
 
 returns-3 : tie.Need-returns-3
 returns-3 c =

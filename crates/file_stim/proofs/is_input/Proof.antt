@@ -1,4 +1,4 @@
--- `is_input` meets its contract: the kind of a signal of an accepted NET is a right field.
+-- `is_input` meets its contract: the kind of a signal of a checked NET is a right field.
 use borrow.Author.Needs.{needs}
 use Rattle.file_stim.proofs.InPlace.{kind-field, kind-is}
 use Rattle.file_stim.proofs.is_input.Statement.{statement}

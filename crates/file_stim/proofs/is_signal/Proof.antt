@@ -1,4 +1,4 @@
--- `is_signal` meets its contract: N is a right field of an accepted NET.
+-- `is_signal` meets its contract: N is a right field of a checked NET.
 use Prim.Native.Nat.{_≤_}
 use native.Mathlib.Omega.{arith}
 use borrow.Author.Tests.{le-leb}

@@ -2,7 +2,9 @@
 use Prim.Native.Nat.{ℕ}
 use mathlib.Core.Path.{refl, _∙_, ap}
 use Rattle.logic.specs.Listed.{listed}
-use Rattle.model.proofs.Accepted.{net-accepted, mod-accepted, stim-accepted}
+use native.Mathlib.Omega.{arith}
+use Rattle.model.proofs.Accepted.{mod-accepted, stim-accepted}
+use Rattle.model.proofs.Checked.{files-checked}
 use Rattle.model.specs.Acceptance.{panelLimit}
 use Rattle.listing_cycle.specs.Changes.{notShown}
 use Rattle.listing.proofs.Opening.{accepted-stimulus, opened}
@@ -14,7 +16,7 @@ load-requires : tie.Need-load-requires
 load-requires c κs =
     let s = c .before .before .before .before .before .before .before .before .before .before in
     let z = s .pre .1 .1 in
-    (net-accepted panelLimit _ (s .pre .0), (mod-accepted panelLimit _ (s .pre .0), (stim-accepted panelLimit _ (s .pre .0), (z .0, z .1, z .2))))
+    (files-checked panelLimit (omega arith) _ (s .pre .0), (mod-accepted panelLimit _ (s .pre .0), (stim-accepted panelLimit _ (s .pre .0), (z .0, z .1, z .2))))
 
 first-later-requires : tie.Need-first-later-requires
 first-later-requires c κs =

@@ -2,7 +2,9 @@
 use mathlib.Core.Path.{sym, _∙_}
 use borrow.Author.Tests.{not-true, not-false}
 use Rattle.model.specs.Files.{filesOf}
-use Rattle.model.proofs.Accepted.{net-accepted, mod-accepted, stim-accepted}
+use Rattle.model.proofs.Accepted.{mod-accepted, stim-accepted}
+use native.Mathlib.Omega.{arith}
+use Rattle.model.proofs.Checked.{files-checked}
 use Rattle.buffers_load_files.specs.Loaded.{panelOf, programOf, openingBytes}
 use Rattle.buffers_lengths.proofs.Sizes.{same-sizes}
 use Rattle.session_opening.proofs.Outcome.{wrong-length, right-length, files-accepted, files-refused, refused-bits, refused-left, accepted-bits, accepted-left}
@@ -24,7 +26,7 @@ load-requires c κs =
     let test = told .before .before .before in
     let e = files-accepted _ _ (told .before .before .check-files .ensures) (told .enum-told .given .1) in
     let l = same-sizes _ _ _ (sym (test .before .lengths-right .ensures) ∙ not-false _ (test .if1 .left)) in
-    (net-accepted 4096 _ e, (mod-accepted 4096 _ e, (stim-accepted 4096 _ e, (l .panel-size, l .program-size, l .memory-size))))
+    (files-checked 4096 (omega arith) _ e, (mod-accepted 4096 _ e, (stim-accepted 4096 _ e, (l .panel-size, l .program-size, l .memory-size))))
 
 returns-2 : tie.Need-returns-2
 returns-2 c =
