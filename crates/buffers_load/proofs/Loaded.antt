@@ -88,7 +88,7 @@ panel-byte files s c x low-s low-c e =
     ∙ ap (λ (y : ℕ). byte y (x % 10)) a
     ∙ ap (λ (y : ℕ). byte s y) b
 
-module _ (files : Files) (accepted : Accepted panelLimit files) where
+module _ {limit : ℕ} (few : limit ≤ panelLimit) (files : Files) (accepted : Accepted limit files) where
   abbrev net : List ℕ
   net = files .NET
 
@@ -96,10 +96,10 @@ module _ (files : Files) (accepted : Accepted panelLimit files) where
   modfile = files .MOD
 
   n : Checked net
-  n = files-checked panelLimit (omega arith) files accepted
+  n = files-checked limit few files accepted
 
   m : modCheck (networkOf files) modfile ≡ pass
-  m = mod-accepted panelLimit files accepted
+  m = mod-accepted limit files accepted
 
   -- a byte of a line of the module
   module _ (p i : ℕ) (a : At (moduleOfFiles files) p i) where

@@ -36,8 +36,8 @@ left-cleared c bytes lent e h = rw (e, h)
 abbrev pub AnswersCleared : Lent → Answer → Type 0
 AnswersCleared c a = a ≡ refused (if sameLengths (c .lengths) fixed then 44 else 40) 0
 
-module _ (files : Files) (before left : Buffers) (bits : ℕ) (right : sameLengths (lengthsOf before) fixed ≡ true) (opens : Opens files before left bits)
-    (number returned : ℕ) (fails : openedBy files before ≡ fail number returned) where
+module _ (limit : ℕ) (files : Files) (before left : Buffers) (bits : ℕ) (right : sameLengths (lengthsOf before) fixed ≡ true) (opens : Opens limit files before left bits)
+    (number returned : ℕ) (fails : openedBy limit files before ≡ fail number returned) where
   sizes : Sizes (length (before .panel)) (length (before .program)) (length (before .memory))
   sizes = same-sizes _ _ _ right
 

@@ -193,7 +193,7 @@ module _ (f : Network) (g : Module) where
           })
           same
 
-module _ (files : Files) (accepted : Accepted panelLimit files) where
+module _ {limit : ℕ} (few : limit ≤ panelLimit) (files : Files) (accepted : Accepted limit files) where
   abbrev n : Network
   n = networkOf files
 
@@ -212,9 +212,9 @@ module _ (files : Files) (accepted : Accepted panelLimit files) where
   pub opened-good : Good n m opened
   unfolding openingBytes
   opened-good =
-      let range = opened-ranged files accepted in
-      let tables = loaded-tables files accepted in
-      let holding = loaded-holding files accepted in
+      let range = opened-ranged few files accepted in
+      let tables = loaded-tables few files accepted in
+      let holding = loaded-holding few files accepted in
       record {
         lengths =
             same-lengths opened
@@ -226,7 +226,7 @@ module _ (files : Files) (accepted : Accepted panelLimit files) where
         range = range;
         holding = holding;
         watching = watching-in n m opened range holding;
-        few = omega (arith, loaded-head files accepted .0);
+        few = omega (arith, loaded-head few files accepted .0);
       }
 
   -- whichever values follow the rules of VAL
@@ -234,42 +234,42 @@ module _ (files : Files) (accepted : Accepted panelLimit files) where
     bytes-demand-3 : {cs : List Lent} (t : Trace Post opened cs) → Demand3 Post working fixed n m (givenOf files) table t []
     unfolding fresh moduleOf network plainAfter
     bytes-demand-3 t =
-        let formed = accepted-formed panelLimit files accepted in
-        let acyclic = accepted-acyclic panelLimit files accepted in
-        let ok = accepted-scheduled panelLimit files accepted in
-        let placed = placed-there panelLimit files accepted in
-        let processor : (ℕ → ℕ) = λ s. placeOf panelLimit files accepted s .0 in
-        let slot : (ℕ → ℕ) = λ s. placeOf panelLimit files accepted s .1 in
+        let formed = accepted-formed limit files accepted in
+        let acyclic = accepted-acyclic limit files accepted in
+        let ok = accepted-scheduled limit files accepted in
+        let placed = placed-there limit files accepted in
+        let processor : (ℕ → ℕ) = λ s. placeOf limit files accepted s .0 in
+        let slot : (ℕ → ℕ) = λ s. placeOf limit files accepted s .1 in
         demand-3 working fixed n m processor slot (Near m) (givenOf files) table
         (keeps formed acyclic ok (givenOf files) table follows processor slot placed) (kept-table formed acyclic ok (givenOf files) table follows)
         (kept-near formed acyclic ok (givenOf files))
-        Post (Good n m) (meets ok (processors-few files accepted) (slots-few files accepted) processor slot placed (head-back n m)) (stays n m)
+        Post (Good n m) (meets ok (processors-few few files accepted) (slots-few few files accepted) processor slot placed (head-back n m)) (stays n m)
         t []
         (record {
           good = good;
           head = opened-head;
-          memory = opening-holds files accepted;
+          memory = opening-holds few files accepted;
           watching = record { low = omega arith; high = size .0 };
           rows-finished = refl;
         })
       where
         size : (1 ≤ n .size) × (n .size ≤ 4096)
-        size = checked-size (files .NET) (files-checked panelLimit (omega arith) files accepted)
+        size = checked-size (files .NET) (files-checked limit few files accepted)
 
         opened-head : Like n (headIn (opened .panel)) (fresh (givenOf files))
         opened-head =
-            let head = loaded-head files accepted in
+            let head = loaded-head few files accepted in
             record {
               finished = head .0;
-              hand = λ s i k. loaded-network files accepted .hands s i ∙ start-input n (givenOf files) s i k;
+              hand = λ s i k. loaded-network few files accepted .hands s i ∙ start-input n (givenOf files) s i k;
               watch = ap (λ (x : ℕ). record { signal = x; mask = maskIn (opened .panel) }) (head .1) ∙ ap (λ (x : ℕ). record { signal = 1; mask = x }) (head .2);
             }
 
   -- Demand 3. A list of calls begins with the opening, which meets its contract on any earlier buffers of the right lengths: the files are
   -- accepted, so it is not refused; and whatever calls follow, each meeting its contract, their answers, the cycles finished and the
   -- places are those of the plain session, the buffers hold the files' network and module throughout, and 44 never comes.
-  module _ (before left : Buffers) (bits : ℕ) (right : sameLengths (lengthsOf before) fixed ≡ true) (opens : Opens files before left bits) where
-    accepts : openedBy files before ≡ pass
+  module _ (before left : Buffers) (bits : ℕ) (right : sameLengths (lengthsOf before) fixed ≡ true) (opens : Opens limit files before left bits) where
+    accepts : openedBy limit files before ≡ pass
     unfolding openingCheck first unless
     accepts = rw right accepted
 

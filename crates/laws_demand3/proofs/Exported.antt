@@ -9,6 +9,7 @@ use denote.Ref.{now}
 use denote.Triple.Clauses.{AtExit}
 use borrow.Fn.Kinds.{Dens, endedOf}
 use Rattle.model.specs.Files.{filesOf}
+use Rattle.model.specs.Acceptance.{panelLimit}
 use Rattle.model.specs.Session.{Call, Lent, sameLengths, set, watch, read, run}
 use Rattle.session_answers.specs.Answers.{answerBits}
 use Rattle.session_answers.specs.Apart.{apart}
@@ -84,7 +85,7 @@ module _ (κs : Lfts 6) (a : Dens κs open-ps) where
   open-asks-nothing = tt
 
   pub open-opens : (bits : ℕ) (left : AtExit (endedOf 6 open-ps open-r) κs) → OpenTells κs a bits left
-      → Opens (filesOf (now (a .0)) (now (a .1 .0)) (now (a .1 .1 .0)))
+      → Opens panelLimit (filesOf (now (a .0)) (now (a .1 .0)) (now (a .1 .1 .0)))
       (buffersOf (now (a .1 .1 .1 .0)) (now (a .1 .1 .1 .1 .0)) (now (a .1 .1 .1 .1 .1 .0)))
       (buffersOf (now (left .1 .1 .1 .0)) (now (left .1 .1 .1 .1 .0)) (now (left .1 .1 .1 .1 .1 .0))) bits
   open-opens bits left (answer, (panel, (program, memory))) = record { answer = answer; panel = panel; program = program; memory = memory }

@@ -22,15 +22,15 @@ abbrev pub working : Buffers → Working
 working b = record { head = headIn (b .panel); memory = memoryOf (b .memory) }
 
 -- what the opening finds in the files and the buffers lent to it
-abbrev pub openedBy : Files → Buffers → Check
-openedBy files b = openingCheckLent files (b .panel) (b .program) (b .memory)
+abbrev pub openedBy : ℕ → Files → Buffers → Check
+openedBy limit files b = openingCheckLent limit files (b .panel) (b .program) (b .memory)
 
 -- The opening met its contract on any earlier buffers: bits is its answer, left what it leaves.
-pub record Opens (files : Files) (before left : Buffers) (bits : ℕ) : Type 0 where
-  pub answer : bits ≡ checkBits (openedBy files before)
-  pub panel : left .panel ≡ leftBy (openedBy files before) (panelOf files) (before .panel)
-  pub program : left .program ≡ leftBy (openedBy files before) (programOf files) (before .program)
-  pub memory : left .memory ≡ leftBy (openedBy files before) (openingBytes files) (before .memory)
+pub record Opens (limit : ℕ) (files : Files) (before left : Buffers) (bits : ℕ) : Type 0 where
+  pub answer : bits ≡ checkBits (openedBy limit files before)
+  pub panel : left .panel ≡ leftBy (openedBy limit files before) (panelOf files) (before .panel)
+  pub program : left .program ≡ leftBy (openedBy limit files before) (programOf files) (before .program)
+  pub memory : left .memory ≡ leftBy (openedBy limit files before) (openingBytes files) (before .memory)
 
 -- A call met its contract on the buffers lent to it: bits is what it hands back, left what it leaves in them.
 pub record Meets (lent : Buffers) (c : Call) (bits : ℕ) (left : Buffers) : Type 0 where

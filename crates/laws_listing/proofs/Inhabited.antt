@@ -20,6 +20,7 @@ use Rattle.model.specs.Acceptance.{panelLimit, networkOf, fileCheck, Accepted}
 use Rattle.model.specs.Session.{Head}
 use Rattle.model.specs.Listing.{printed}
 use Rattle.model.specs.Demands.{Demand2}
+use Rattle.model.proofs.Checked.{panel-few}
 use Rattle.model.proofs.Refusals.{pass-not-fail, first-both}
 use Rattle.model.proofs.Accepted.{stim-accepted}
 use Rattle.buffers_memory.specs.Memory.{memoryOf, withMemory}
@@ -187,7 +188,7 @@ module _ (files : Files) (accepted : Accepted panelLimit files) where
 
   opens : Stands files 0 lister (files .STIM) panel (programOf files) (openingBytes files) (listed shownLength (λ a. notShown))
   opens =
-      let size = loaded-tables files accepted .panel-size in
+      let size = loaded-tables panel-few files accepted .panel-size in
       opened files accepted lister panel (programOf files) (openingBytes files) (listed shownLength (λ a. notShown))
       refl refl refl
       (decoded panel (listed 4097 (handIn panel)) size refl _ _ _ refl refl refl)

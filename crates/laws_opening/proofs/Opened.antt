@@ -56,7 +56,7 @@ located-same {most = most} {other = other} e f g h =
       none-at-0 = λ q. g ∙ h .none-at-0 (sym f ∙ q);
     }
 
-module _ (files : Files) (accepted : Accepted panelLimit files) where
+module _ {limit : ℕ} (few : limit ≤ panelLimit) (files : Files) (accepted : Accepted limit files) where
   abbrev net : List ℕ
   net = files .NET
 
@@ -64,10 +64,10 @@ module _ (files : Files) (accepted : Accepted panelLimit files) where
   modfile = files .MOD
 
   n : Checked net
-  n = files-checked panelLimit (omega arith) files accepted
+  n = files-checked limit few files accepted
 
   m : modCheck (networkOf files) modfile ≡ pass
-  m = mod-accepted panelLimit files accepted
+  m = mod-accepted limit files accepted
 
   abbrev panel : List ℕ
   panel = panelOf files
@@ -82,10 +82,10 @@ module _ (files : Files) (accepted : Accepted panelLimit files) where
   zeroth = start (networkOf files) (givenOf files)
 
   same-lines : SameLines (moduleIn panel program) (moduleOfFiles files)
-  same-lines = loaded-module files accepted
+  same-lines = loaded-module few files accepted
 
   same-signals : SameSignals (networkIn panel program) (networkOf files) (moduleOfFiles files) panel zeroth
-  same-signals = loaded-network files accepted
+  same-signals = loaded-network few files accepted
 
   signals-is : signalsIn panel ≡ netSize net
   unfolding networkIn network
@@ -103,7 +103,7 @@ module _ (files : Files) (accepted : Accepted panelLimit files) where
   zeroth-code : (s : ℕ) → Signal (networkOf files) s → zeroth s ≤ 3
   zeroth-code =
       start-code (networkOf files) (givenOf files) (λ s g.
-      held-code (networkOf files) (files .STIM) (stim-right (networkOf files) (files .STIM) (stim-accepted panelLimit files accepted)) 0 s)
+      held-code (networkOf files) (files .STIM) (stim-right (networkOf files) (files .STIM) (stim-accepted limit files accepted)) 0 s)
 
   -- the panel
   head : Head panel
@@ -111,7 +111,7 @@ module _ (files : Files) (accepted : Accepted panelLimit files) where
       let signals = signals-is in
       let processors = processors-is in
       let slots = slots-is in
-      let fresh = loaded-head files accepted in
+      let fresh = loaded-head few files accepted in
       let size = checked-size net n in
       let few = mod-processors (networkOf files) modfile m in
       let short = mod-slots (networkOf files) modfile m in
@@ -137,7 +137,7 @@ module _ (files : Files) (accepted : Accepted panelLimit files) where
     right = checked-signal net n s is-signal
 
     code-at : (c : ℕ) → 1 ≤ c → c < 7 → getD panel (10 * s + c) 0 ≡ netField net s (c + 1)
-    code-at c l h = signal-byte files accepted s is-signal c _ (omega arith) refl ∙ sym (code-byte net s _ _ _ c l h)
+    code-at c l h = signal-byte few files accepted s is-signal c _ (omega arith) refl ∙ sym (code-byte net s _ _ _ c l h)
 
     kind-is : kindIn panel s ≡ netField net s 0
     unfolding networkIn network

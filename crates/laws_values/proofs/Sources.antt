@@ -61,7 +61,7 @@ module _ (n : Network) (m : Module) (p i j : ℕ) (e : n .kind (m .signal p i) �
   unfolding operandRight
   input-none t = eqb-true _ _ (rw must-none at t)
 
-module _ (files : Files) (accepted : Accepted panelLimit files) (panel program : List ℕ)
+module _ {limit : ℕ} (few : limit ≤ panelLimit) (files : Files) (accepted : Accepted limit files) (panel program : List ℕ)
     (holding : Holding (networkOf files) (moduleOfFiles files) panel program) where
   abbrev n : Network
   n = networkOf files
@@ -73,7 +73,7 @@ module _ (files : Files) (accepted : Accepted panelLimit files) (panel program :
   t = moduleIn panel program
 
   abbrev ok : Scheduled n m
-  ok = accepted-scheduled panelLimit files accepted
+  ok = accepted-scheduled limit files accepted
 
   module _ (s j : ℕ) (g : Signal n s) (l : j < 4) (p i : ℕ) (a : At m p i) (is : m .signal p i ≡ s) where
     -- by the part and the location of the line
@@ -105,14 +105,14 @@ module _ (files : Files) (accepted : Accepted panelLimit files) (panel program :
     input-source : n .kind (m .signal p i) ≡ input → namedSignal t p i j ≡ n .source s j
     unfolding network
     input-source e =
-        let line = net-signal panelLimit (files .NET) (net-accepted panelLimit files accepted) s g in
+        let line = net-signal limit (files .NET) (net-accepted limit files accepted) s g in
         named-none (input-none n m p i j e (ok .operands p i j a l))
         ∙ sym (line .zeros (ap (n .kind) (sym is) ∙ e) (8 + j) (omega arith) (omega arith))
 
   -- the sources that the tables hold are NET's
   pub held-sources : (s j : ℕ) → Signal n s → j < 4 → networkIn panel program .source s j ≡ n .source s j
   unfolding networkIn
-  held-sources s j g l = go (accepted-formed panelLimit files accepted .kinds (m .signal p i) signal)
+  held-sources s j g l = go (accepted-formed limit files accepted .kinds (m .signal p i) signal)
     where
       p : ℕ
       p = processorIn panel s

@@ -37,7 +37,7 @@ written-near {n} {m} {panel} {program} holding few short w old =
     subst (λ (c : ℕ). Near m (memoryOf (withMemory (processorsIn panel) c w old)) w) (sym (holding .lines .slots))
     (subst (λ (p : ℕ). Near m (memoryOf (withMemory p (m .slots) w old)) w) (sym (holding .lines .processors)) (with-memory-near m few short w old))
 
-module _ (files : Files) (accepted : Accepted panelLimit files) where
+module _ {limit : ℕ} (few : limit ≤ panelLimit) (files : Files) (accepted : Accepted limit files) where
   abbrev n : Network
   n = networkOf files
 
@@ -45,13 +45,13 @@ module _ (files : Files) (accepted : Accepted panelLimit files) where
   m = moduleOfFiles files
 
   abbrev formed : Formed n
-  formed = accepted-formed panelLimit files accepted
+  formed = accepted-formed limit files accepted
 
   abbrev acyclic : Acyclic n
-  acyclic = accepted-acyclic panelLimit files accepted
+  acyclic = accepted-acyclic limit files accepted
 
   abbrev ok : Scheduled n m
-  ok = accepted-scheduled panelLimit files accepted
+  ok = accepted-scheduled limit files accepted
 
   -- the bytes hold VAL of the rows, and of the cycle before
   abbrev pub Holds : List ℕ → List (ℕ → ℕ) → Type 0
@@ -59,11 +59,11 @@ module _ (files : Files) (accepted : Accepted panelLimit files) where
 
   pub processors-few : m .processors ≤ 16
   unfolding moduleOf
-  processors-few = mod-processors n (files .MOD) (mod-accepted panelLimit files accepted) .1
+  processors-few = mod-processors n (files .MOD) (mod-accepted limit files accepted) .1
 
   pub slots-few : m .slots ≤ 256
   unfolding moduleOf
-  slots-few = mod-slots n (files .MOD) (mod-accepted panelLimit files accepted) .1
+  slots-few = mod-slots n (files .MOD) (mod-accepted limit files accepted) .1
 
   module _ (panel program : List ℕ) (holding : Holding n m panel program) where
     -- the tables' machine keeps step, with rows that have the inputs' values in hand

@@ -22,6 +22,7 @@ use Rattle.model.specs.Stimulus.{held, endTime}
 use Rattle.model.specs.Acceptance.{panelLimit, networkOf, moduleOfFiles, givenOf, Accepted}
 use Rattle.model.specs.Session.{Head, Watch}
 use Rattle.model.specs.Listing.{valueAt}
+use Rattle.model.proofs.Checked.{panel-few}
 use Rattle.model.proofs.Chains.{signal-true, signal-test}
 use Rattle.model.proofs.Machine.{Near, near-refl, cycle-rows, cycle-near}
 use Rattle.model.proofs.Keeping.{machine-holds-VAL}
@@ -152,11 +153,11 @@ module _ (files : Files) where
     program = programOf files
 
     few : signalsIn loaded ≤ 4096
-    few = loaded-tables files accepted .signals-high
+    few = loaded-tables panel-few files accepted .signals-high
 
     -- the panel holds the files' network and module
     loaded-here : Holding n m loaded program
-    loaded-here = loaded-holding files accepted
+    loaded-here = loaded-holding panel-few files accepted
 
     pub panel-holding : (t : ℕ) → Holding n m (panelAt files t) program
     unfolding panelAt
@@ -167,7 +168,7 @@ module _ (files : Files) where
     pub panel-hand : (t s : ℕ) → Signal n s → handIn (panelAt files t) s ≡ held stim t s
     unfolding panelAt start
     panel-hand zero s g =
-        loaded-network files accepted .hands s g
+        loaded-network panel-few files accepted .hands s g
     panel-hand (suc t) s g =
         with-head-hand _ loaded s (g .low) (signal-high loaded program n s few (loaded-here .signals) g) ∙ hand-signal (suc t) s g
 
@@ -175,7 +176,7 @@ module _ (files : Files) where
     pub panel-none : (t : ℕ) → handIn (panelAt files t) 0 ≡ 1
     unfolding panelAt
     panel-none zero =
-        let head = loaded-head files accepted in
+        let head = loaded-head panel-few files accepted in
         omega (arith, head .1)
     panel-none (suc t) = session-byte _ loaded 7 (omega arith)
 
@@ -185,7 +186,7 @@ module _ (files : Files) where
     places-hold panel program holding t s g =
         let there = holding .places s g in
         let w = after n m (opening m (start n (givenOf files))) (history (held stim) t) in
-        with-memory-near m (processors-few files accepted) (slots-few files accepted) w (listed memoryLength (λ a. 0)) .earlierLocal _ _ (there .at)
+        with-memory-near m (processors-few panel-few files accepted) (slots-few panel-few files accepted) w (listed memoryLength (λ a. 0)) .earlierLocal _ _ (there .at)
         ∙ machine-holds-VAL (accepted-formed panelLimit files accepted) (accepted-acyclic panelLimit files accepted) (accepted-scheduled panelLimit files accepted)
         (givenOf files) (history (held stim) t) s _ _ g (there .at) (there .is)
 
@@ -204,7 +205,7 @@ module _ (files : Files) where
     unfolding memoryAt moduleOf after history
     memory-next t memory left is e =
         let laid = accepted-scheduled panelLimit files accepted .laid in
-        with-memory-step m (processors-few files accepted) (slots-few files accepted) (cycle n m (held stim (suc t))) (λ w u. cycle-near laid (held stim (suc t)))
+        with-memory-step m (processors-few panel-few files accepted) (slots-few panel-few files accepted) (cycle n m (held stim (suc t))) (λ w u. cycle-near laid (held stim (suc t)))
         (after n m (opening m (start n (givenOf files))) (history (held stim) t)) (listed memoryLength (λ a. 0)) memory left is
         (e ∙ written-same (within (m .processors) (m .slots)) _ _ memory (agree-near m _ _ (cycle-is (suc t) (memoryOf memory))))
 

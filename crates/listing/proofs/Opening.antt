@@ -13,6 +13,7 @@ use Rattle.model.specs.Machine.{opening, after}
 use Rattle.model.specs.ModuleFile.{modProcessors, modSlots, moduleOf}
 use Rattle.model.specs.Stimulus.{endTime}
 use Rattle.model.specs.Acceptance.{panelLimit, networkOf, moduleOfFiles, givenOf, Accepted}
+use Rattle.model.proofs.Checked.{panel-few}
 use Rattle.model.proofs.Accepted.{stim-accepted}
 use Rattle.buffers_memory.specs.Memory.{memoryLength, within}
 use Rattle.buffers_memory.proofs.Written.{written-length}
@@ -45,21 +46,21 @@ module _ (files : Files) (accepted : Accepted panelLimit files) where
   opened-right : RightBuffers panel program memory
   unfolding openingBytes
   opened-right =
-      let tables = loaded-tables files accepted in
+      let tables = loaded-tables panel-few files accepted in
       record {
         sizes = record {
           panel-size = tables .panel-size;
           program-size = tables .program-size;
           memory-size = written-length (within (modProcessors (files .MOD)) (modSlots (files .MOD))) (opening (moduleOfFiles files) (start (networkOf files) (givenOf files))) (listed memoryLength (λ a. 0));
         };
-        range = opened-ranged files accepted;
+        range = opened-ranged panel-few files accepted;
       }
 
   opened-stands : (l : Lister) → headOf (l .session) ≡ headIn panel → Passed (files .STIM) 0 (l .cursor .line) → l .end .0 ≡ endTime (files .STIM)
       → l .pieces ≡ 0 → (shown : List ℕ) → shown ≡ listed shownLength (λ a. notShown) → Stands files 0 l (files .STIM) panel program memory shown
   unfolding cyclesAfter panelAt memoryAt shownAt openingBytes after history moduleOf network
   opened-stands l head passed end count shown none =
-      let zeroth = loaded-head files accepted in
+      let zeroth = loaded-head panel-few files accepted in
       record {
         accepted = accepted;
         stimulus = refl;

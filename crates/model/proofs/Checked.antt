@@ -15,6 +15,10 @@ use Rattle.model.specs.Checked.{Checked}
 use Rattle.model.proofs.Accepted.{SignalRight, net-accepted, net-size, net-signal, net-lines}
 use Rattle.model.proofs.RightLine.{line-field}
 
+-- the panel's own limit is one
+pub panel-few : panelLimit ≤ panelLimit
+panel-few = omega arith
+
 pub checked-accepted : (limit : ℕ) → limit ≤ panelLimit → (net : List ℕ) → netCheck limit net ≡ pass → Checked net
 checked-accepted limit few net passes = record { limit = limit; few = few; passes = passes }
 

@@ -15,12 +15,12 @@ use Rattle.file_checks.specs.declared.FileAnswer.{FileAnswer}
 use Rattle.file_checks.specs.declared.FileAnswer.the-variants.{Accepted, Refused}
 use Rattle.session_opening.specs.Opened.{openingCheck, cleared, leftBy}
 
-module _ (files : Files) (lent : Lengths) where
-  pub wrong-length : sameLengths lent fixed ≡ false → openingCheck files lent ≡ fail 40 0
+module _ (limit : ℕ) (files : Files) (lent : Lengths) where
+  pub wrong-length : sameLengths lent fixed ≡ false → openingCheck limit files lent ≡ fail 40 0
   unfolding openingCheck first unless
   wrong-length e = rw e
 
-  pub right-length : sameLengths lent fixed ≡ true → openingCheck files lent ≡ fileCheck panelLimit files
+  pub right-length : sameLengths lent fixed ≡ true → openingCheck limit files lent ≡ fileCheck limit files
   unfolding openingCheck first unless
   right-length e = rw e
 

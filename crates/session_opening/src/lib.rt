@@ -41,10 +41,10 @@ pub fn open(
     program: &mut [u8],
     memory: &mut [u8],
 ) -> u64
-    ensures answer { λ r. ⌜ r ≡ checkBits (openingCheckLent (filesOf (now (net .entry)) (now (modfile .entry)) (now (stim .entry))) (now (panel .entry)) (now (program .entry)) (now (memory .entry))) ⌝ }
-    ensures panel { λ _. ⌜ now (panel .exit) ≡ leftBy (openingCheckLent (filesOf (now (net .entry)) (now (modfile .entry)) (now (stim .entry))) (now (panel .entry)) (now (program .entry)) (now (memory .entry))) (panelOf (filesOf (now (net .entry)) (now (modfile .entry)) (now (stim .entry)))) (now (panel .entry)) ⌝ }
-    ensures program { λ _. ⌜ now (program .exit) ≡ leftBy (openingCheckLent (filesOf (now (net .entry)) (now (modfile .entry)) (now (stim .entry))) (now (panel .entry)) (now (program .entry)) (now (memory .entry))) (programOf (filesOf (now (net .entry)) (now (modfile .entry)) (now (stim .entry)))) (now (program .entry)) ⌝ }
-    ensures memory { λ _. ⌜ now (memory .exit) ≡ leftBy (openingCheckLent (filesOf (now (net .entry)) (now (modfile .entry)) (now (stim .entry))) (now (panel .entry)) (now (program .entry)) (now (memory .entry))) (openingBytes (filesOf (now (net .entry)) (now (modfile .entry)) (now (stim .entry)))) (now (memory .entry)) ⌝ }
+    ensures answer { λ r. ⌜ r ≡ checkBits (openingCheckLent panelLimit (filesOf (now (net .entry)) (now (modfile .entry)) (now (stim .entry))) (now (panel .entry)) (now (program .entry)) (now (memory .entry))) ⌝ }
+    ensures panel { λ _. ⌜ now (panel .exit) ≡ leftBy (openingCheckLent panelLimit (filesOf (now (net .entry)) (now (modfile .entry)) (now (stim .entry))) (now (panel .entry)) (now (program .entry)) (now (memory .entry))) (panelOf (filesOf (now (net .entry)) (now (modfile .entry)) (now (stim .entry)))) (now (panel .entry)) ⌝ }
+    ensures program { λ _. ⌜ now (program .exit) ≡ leftBy (openingCheckLent panelLimit (filesOf (now (net .entry)) (now (modfile .entry)) (now (stim .entry))) (now (panel .entry)) (now (program .entry)) (now (memory .entry))) (programOf (filesOf (now (net .entry)) (now (modfile .entry)) (now (stim .entry)))) (now (program .entry)) ⌝ }
+    ensures memory { λ _. ⌜ now (memory .exit) ≡ leftBy (openingCheckLent panelLimit (filesOf (now (net .entry)) (now (modfile .entry)) (now (stim .entry))) (now (panel .entry)) (now (program .entry)) (now (memory .entry))) (openingBytes (filesOf (now (net .entry)) (now (modfile .entry)) (now (stim .entry)))) (now (memory .entry)) ⌝ }
 {
     if !buffers_lengths::lengths_right(panel, program, memory) {
         return refuse(40, 0, panel, program, memory);

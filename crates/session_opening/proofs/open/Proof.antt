@@ -16,7 +16,7 @@ returns : tie.Need-returns
 returns c =
     let refused = c .before .before .before .before .before .before in
     let test = refused .before .before .before .before in
-    let e = wrong-length _ _ (sym (test .before .lengths-right .ensures) ∙ not-true _ (test .if1 .taken)) in
+    let e = wrong-length _ _ _ (sym (test .before .lengths-right .ensures) ∙ not-true _ (test .if1 .taken)) in
     let r = refused .refuse .ensures in
     (r .0 ∙ refused-bits e, (r .1 .0 ∙ refused-left e _ _, (r .1 .1 .0 ∙ refused-left e _ _, r .1 .1 .1 ∙ refused-left e _ _)))
 
@@ -36,7 +36,7 @@ returns-2 c =
     let lent = test .before .before .before .before .before in
     let s = lent .before .before .before .before .before .before in
     let files = filesOf (s .args .net .now) (s .args .modfile .now) (s .args .stim .now) in
-    let e = right-length _ _ (sym (test .before .lengths-right .ensures) ∙ not-false _ (test .if1 .left))
+    let e = right-length _ _ _ (sym (test .before .lengths-right .ensures) ∙ not-false _ (test .if1 .left))
     ∙ files-accepted _ _ (told .before .before .check-files .ensures) (told .enum-told .given .1) in
     let r = loaded .load .ensures in
     (accepted-bits e, (accepted-left e _ (panelOf files) _ (r .0), (accepted-left e _ (programOf files) _ (r .1 .0), accepted-left e _ (openingBytes files) _ (r .1 .1))))
@@ -46,7 +46,7 @@ returns-3 c =
     let refused = c .before .before .before .before .before .before in
     let told = refused .before .before .before .before .before in
     let test = told .before .before .before in
-    let e = right-length _ _ (sym (test .before .lengths-right .ensures) ∙ not-false _ (test .if1 .left))
+    let e = right-length _ _ _ (sym (test .before .lengths-right .ensures) ∙ not-false _ (test .if1 .left))
     ∙ files-refused _ _ (told .before .before .check-files .ensures) (told .number .given .1) in
     let r = refused .refuse2 .ensures in
     (r .0 ∙ refused-bits e, (r .1 .0 ∙ refused-left e _ _, (r .1 .1 .0 ∙ refused-left e _ _, r .1 .1 .1 ∙ refused-left e _ _)))
