@@ -7,7 +7,7 @@ use mathlib.Core.Logic.{⊎-elim}
 use native.Mathlib.Omega.{arith}
 use native.Mathlib.Nat.{eq-or-lt-of-le}
 use borrow.Author.Tests.{eq-eqb, ne-eqb}
-use Rattle.model.specs.Network.{Network, Signal, input, unitDelay, rankOrder}
+use Rattle.model.specs.Network.{Network, Signal, rankOrder}
 use Rattle.model.specs.Value.{evaluate, Step, next, VAL}
 use Rattle.model.proofs.Conditions.{Formed, Acyclic, Same}
 use Rattle.model.proofs.Value.{evaluate-same, source-signal, next-step, step-unique}

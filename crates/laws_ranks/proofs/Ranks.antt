@@ -2,8 +2,9 @@
 -- the walks along rank-order gates (`by-walks`), as the existence and uniqueness of VAL.
 use Prim.Native.Nat.{ℕ, zero, suc, _≤_, _<_, max}
 use mathlib.Core.Path.{_≡_, refl, sym, subst, _∙_, ap, ap₂}
-use mathlib.Core.Logic.{⊎-elim}
+use mathlib.Core.Logic.{_⊎_, inl, inr, ⊎-elim}
 use native.Mathlib.Omega.{arith}
+use native.Mathlib.Decide.{decLe}
 use native.Mathlib.Nat.{eq-or-lt-of-le}
 use borrow.Author.Tests.{ne-eqb}
 use Rattle.model.specs.Network.{Network, Signal, rankOrder}
@@ -38,6 +39,49 @@ highest-bounds n rank s (suc j) i l some =
     at : (x : ℕ) → 1 ≤ x → rank x ≤ max (highest n rank s j) (valueOf rank x)
     at zero h = absurd (omega arith)
     at (suc x) h = omega arith
+
+-- one of the first j sources, with the highest rank of them
+record Attained (n : Network) (rank : ℕ → ℕ) (s j : ℕ) : Type 0 where
+  at : ℕ
+  small : at < j
+  some : 1 ≤ n .source s at
+  is : rank (n .source s at) ≡ highest n rank s j
+
+module _ (n : Network) (rank : ℕ → ℕ) (s : ℕ) where
+  attained-before : (j : ℕ) → valueOf rank (n .source s j) ≤ highest n rank s j → Attained n rank s j → Attained n rank s (suc j)
+  unfolding highest
+  attained-before j h a = record { at = a .at; small = omega (arith, a .small); some = a .some; is = omega (arith, a .is) }
+
+  attained-last : (j x : ℕ) → n .source s j ≡ suc x → highest n rank s j ≤ rank (suc x) → Attained n rank s (suc j)
+  unfolding highest
+  attained-last j x e h = record { at = j; small = omega arith; some = omega arith; is = rw e (omega arith) }
+
+  -- where none has it, it is 0
+  highest-attained : (j : ℕ) → Attained n rank s j ⊎ (highest n rank s j ≡ 0)
+  unfolding highest
+  highest-attained zero = inr refl
+  highest-attained (suc j) = go (n .source s j) refl (highest-attained j)
+    where
+      go : (x : ℕ) → n .source s j ≡ x → Attained n rank s j ⊎ (highest n rank s j ≡ 0)
+          → Attained n rank s (suc j) ⊎ (highest n rank s (suc j) ≡ 0)
+      go zero e (inl a) = inl (attained-before j (rw e (omega arith)) a)
+      go zero e (inr none) = inr (rw e (omega arith))
+      go (suc x) e before =
+          elim (decLe (highest n rank s j) (rank (suc x))) [
+            | yes h ↦ inl (attained-last j x e h)
+            | no h ↦
+                ⊎-elim
+                (λ (a : Attained n rank s j). inl (attained-before j (rw e (omega arith)) a))
+                (λ (none : highest n rank s j ≡ 0). absurd (omega arith))
+                before
+          ]
+
+-- a source of s whose rank is one less
+pub record JustBelow (n : Network) (rank : ℕ → ℕ) (s : ℕ) : Type 0 where
+  pub index : ℕ
+  pub small : index < 4
+  pub some : 1 ≤ n .source s index
+  pub is : rank s ≡ suc (rank (n .source s index))
 
 module _ (n : Network) where
   rank-other : (d s : ℕ) → (n .kind s ≡ rankOrder → ⊥) → rankTo n d s ≡ 0
@@ -92,3 +136,22 @@ module _ (n : Network) where
   pub sources-lower : (rank : ℕ → ℕ) → Ranks n rank → (s j : ℕ) → Signal n s → n .kind s ≡ rankOrder → j < 4 → 1 ≤ n .source s j
       → rank (n .source s j) < rank s
   sources-lower rank r s j g k l some = omega (arith, r .rank-orders s g k, highest-bounds n rank s 4 j l some)
+
+  -- "rank(u) = n for some immediate predecessor u of s"
+  pub source-just-below : (rank : ℕ → ℕ) → Ranks n rank → (s j : ℕ) → Signal n s → n .kind s ≡ rankOrder → j < 4 → 1 ≤ n .source s j
+      → JustBelow n rank s
+  source-just-below rank r s j g k l some =
+      ⊎-elim
+      (λ a. record { index = a .at; small = a .small; some = a .some; is = r .rank-orders s g k ∙ ap suc (sym (a .is)) })
+      (λ (none : highest n rank s 4 ≡ 0).
+      record { index = j; small = l; some = some; is = omega (arith, r .rank-orders s g k, highest-bounds n rank s 4 j l some) })
+      (highest-attained n rank s 4)
+
+  -- and a rank-order gate without a source has rank 1
+  pub no-source-1 : (rank : ℕ → ℕ) → Ranks n rank → (s : ℕ) → Signal n s → n .kind s ≡ rankOrder
+      → ((j : ℕ) → j < 4 → n .source s j ≡ 0) → rank s ≡ 1
+  no-source-1 rank r s g k none =
+      ⊎-elim
+      (λ a. absurd (omega (arith, a .some, none (a .at) (a .small))))
+      (λ (e : highest n rank s 4 ≡ 0). r .rank-orders s g k ∙ ap suc e)
+      (highest-attained n rank s 4)
