@@ -79,11 +79,11 @@ rows-back [] = refl
 rows-back (row ∷ rows) = rw (eq-eqb (suc (length rows)) (suc (length rows)) refl, earlier-rows row rows (length rows) (omega arith), rows-back rows)
 
 -- no walk of d steps ends at s
-abbrev Within : Network → ℕ → ℕ → Type 0
+abbrev pub Within : Network → ℕ → ℕ → Type 0
 Within n d s = (a : ℕ) → Walk n d a s → ⊥
 
 module _ (n : Network) (formed : Formed n) where
-  source-signal : (s j : ℕ) → Signal n s → j < 4 → 1 ≤ n .source s j → Signal n (n .source s j)
+  pub source-signal : (s j : ℕ) → Signal n s → j < 4 → 1 ≤ n .source s j → Signal n (n .source s j)
   source-signal s j g l low = record { low = low; high = formed .sources s j g l }
 
   pub evaluate-signals : (v w : ℕ → ℕ) → Same n v w → (s : ℕ) → Signal n s → evaluate n v s ≡ evaluate n w s
@@ -105,7 +105,7 @@ module _ (n : Network) (formed : Formed n) where
       }))
 
   -- by induction on the walks to s: what holds of all but rank-order gates, and of a rank-order gate if of its sources, holds of s
-  by-walks : (P : ℕ → ℕ → Type 0)
+  pub by-walks : (P : ℕ → ℕ → Type 0)
       → ((d s : ℕ) → Signal n s → (n .kind s ≡ rankOrder → ⊥) → P d s)
       → ((d s : ℕ) → Signal n s → n .kind s ≡ rankOrder → ((j : ℕ) → j < 4 → 1 ≤ n .source s j → P d (n .source s j)) → P (suc d) s)
       → (d s : ℕ) → Signal n s → Within n d s → P d s
@@ -129,7 +129,7 @@ module _ (n : Network) (formed : Formed n) where
       ∙ sym (settle-rank n base (suc d) s k))
 
   module _ (acyclic : Acyclic n) where
-    within : (s : ℕ) → Within n (n .size) s
+    pub within : (s : ℕ) → Within n (n .size) s
     within s a w = no-long-walk n acyclic w
 
     -- the state computed follows the rules, for N rounds settle every signal
