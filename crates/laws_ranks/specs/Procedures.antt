@@ -1,4 +1,5 @@
--- The two simulation procedures of the Yorktown paper, as what they make of the values by signal, and a cycle of this unit by them.
+-- The two procedures (000, Unit-delay simulation, Rank-order simulation), as what they make of the values by signal, and a cycle of
+-- this unit by them.
 use Prim.Native.Nat.{ℕ, zero, suc, max}
 use mathlib.Core.List.{List, [], _∷_}
 use lib.Dec.{eqb}
@@ -44,7 +45,7 @@ specified n row v s = if eqb (n .kind s) input then row s else v s
 unfoldable pub combined : Network → (ℕ → ℕ) → (ℕ → ℕ) → ℕ → ℕ
 combined n row before s = rankOrderProcedure n (unitDelayRound n before (specified n row before)) s
 
--- the values after cycles with these inputs' values, the last first
+-- "for t = 1 to T do": the values after the cycles with these inputs' values, the last first
 unfoldable pub simulated : Network → (ℕ → ℕ) → List (ℕ → ℕ) → ℕ → ℕ
 simulated n given [] s = start n given s
 simulated n given (row ∷ rows) s = combined n row (simulated n given rows) s

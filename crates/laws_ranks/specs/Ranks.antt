@@ -1,6 +1,6 @@
--- Ranks, as the Yorktown paper has them: the rules, and a function that computes the one numbering that follows them.
--- The paper's graph has rank-order gates alone. Here a unit-delay gate shows, to the gates that read it, a value known before any
--- of them is evaluated, so that it counts with the inputs.
+-- Ranks (000, Rank-order simulation): the rules, and a function that computes the one numbering that follows them. The network of 000
+-- has no unit-delay gate there. Here a unit-delay gate has its value before any rank-order gate is evaluated, so that it counts with
+-- the inputs.
 use Prim.Native.Nat.{ℕ, zero, suc, max}
 use mathlib.Core.Path.{_≡_}
 use mathlib.Core.Bool.{true, false}
