@@ -114,7 +114,7 @@ def stimulus(rnd, cycles, first, inputs, turning, lively):
     return stim
 
 
-# So many cycles that a run takes one second or two; the small boards have all that a session can have.
+# The number of cycles is such that a run takes one second or two; the small boards have all that a session can have.
 BOARDS = {
     "quiet": (20000, "none", FULL),
     "tenth": (12000, "tenth", FULL),

@@ -30,7 +30,7 @@ fn largest(bytes: &[u8], at: usize, count: usize) -> u8
     best
 }
 
-// So many bytes from a place on are 0, as every number that is not in use (D25).
+// `count` bytes starting at `at` are 0, as every number that is not in use (D25).
 pub fn all_zero(bytes: &[u8], at: usize, count: usize) -> bool
     requires { ⌜ at + count ≤ length (now bytes) ⌝ }
     ensures { λ r. ⌜ r ≡ zeros (now (bytes .entry)) at count ⌝ }
@@ -38,7 +38,7 @@ pub fn all_zero(bytes: &[u8], at: usize, count: usize) -> bool
     largest(bytes, at, count) == 0
 }
 
-// So many bytes from a place on are "a value 0 to 3".
+// `count` bytes starting at `at` are "a value 0 to 3".
 pub fn all_values(bytes: &[u8], at: usize, count: usize) -> bool
     requires { ⌜ at + count ≤ length (now bytes) ⌝ }
     ensures { λ r. ⌜ r ≡ all count (λ k. leb (getD (now (bytes .entry)) (at + k) 0) 3) ⌝ }
@@ -46,7 +46,7 @@ pub fn all_values(bytes: &[u8], at: usize, count: usize) -> bool
     largest(bytes, at, count) <= 3
 }
 
-// So many bytes from a place on are codes of translations.
+// `count` bytes starting at `at` are codes of translations.
 pub fn all_translations(bytes: &[u8], at: usize, count: usize) -> bool
     requires { ⌜ at + count ≤ length (now bytes) ⌝ }
     ensures { λ r. ⌜ r ≡ all count (λ k. isTranslation (getD (now (bytes .entry)) (at + k) 0)) ⌝ }

@@ -74,7 +74,7 @@ pub extern "C" fn cavundir_read(panel: &[u8], program: &[u8], memory: &[u8], sig
     session_calls::read(panel, program, memory, signal)
 }
 
-// Runs so many cycles, or fewer where the watch stops it.
+// Runs `cycles` cycles, or fewer where the watch stops it.
 #[no_mangle]
 pub extern "C" fn cavundir_run(
     panel: &mut [u8],

@@ -1,4 +1,4 @@
--- The numbers of a row of fields, as the law that a right line is the text of its numbers has them (crates/writing): no demand is stated
+-- The numbers of a row of fields, as the law that a right line is the text of its numbers has them (crates/laws_writing): no demand is stated
 -- with them, and they need not be believed.
 use Prim.Native.Nat.{ℕ, zero, suc, _+_}
 use mathlib.Core.List.{List, [], _∷_}

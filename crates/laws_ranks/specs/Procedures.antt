@@ -1,4 +1,4 @@
--- The two procedures (000, Unit-delay simulation, Rank-order simulation), as what they make of the values by signal, and a cycle of
+-- The two procedures (000, Unit-delay simulation, Rank-order simulation), as functions of the values by signal, and a cycle of
 -- this unit by them.
 use Prim.Native.Nat.{ℕ, zero, suc, max}
 use mathlib.Core.List.{List, [], _∷_}

@@ -1,5 +1,5 @@
 -- The bytes that the machine leaves hold VAL at the place of every signal, for accepted files: what `load` writes, and what every cycle
--- and every run makes of it, by the contracts of `buffers_load` and `machine_run`. The idea: the bytes' memory keeps step with the rows, and the
+-- and every run leaves after it, by the contracts of `buffers_load` and `machine_run`. The idea: the bytes' memory keeps step with the rows, and the
 -- tables run as the files' own machine.
 use Prim.Native.Nat.{ℕ, zero, suc, _≤_}
 use mathlib.Core.Path.{_≡_, refl, sym, subst}
