@@ -2,17 +2,18 @@
 -- cycle, whether an operand may read it or not (01, Traps). The idea: the slots of a cycle leave the earlier halves alone and store
 -- present location k in slot k alone, and the halves alternate; so a present location not yet stored holds what was stored two cycles
 -- before. Before time 0 stands time 0, save in the present local half, which holds 0 until cycle 1 stores it.
-use Prim.Native.Nat.{ℕ, _≤_}
+use Prim.Native.Nat.{ℕ, _<_, _≤_}
 use mathlib.Core.Path.{_≡_}
 use mathlib.Core.List.{List, [], _∷_}
 use native.Mathlib.Omega.{arith}
 use lib.ListN.{length, drop}
 use Rattle.model.specs.Network.{Network}
-use Rattle.model.specs.Value.{start, VAL}
+use Rattle.model.specs.Value.{valueOf, start, VAL}
 use Rattle.model.specs.Module.{Module, At, localEarlier, localPresent, switchEarlier, switchPresent, noSender, sentPart, sentSignal, earlier, Carries, local-not-yet, switch-earlier, switch-not-yet}
-use Rattle.model.specs.Machine.{Memory, fetch, slots, opening, after}
+use Rattle.model.specs.Machine.{Memory, fetch, operand, slots, opening, after}
 use Rattle.model.proofs.Conditions.{Formed, Acyclic, Scheduled}
-use Rattle.model.proofs.Machine.{sent-some, slots-unstored, young-stored, carries-past}
+use Rattle.model.proofs.Operands.{wanted, IsGate}
+use Rattle.model.proofs.Machine.{sent-some, slots-unstored, young-stored, carries-past, operand-past}
 use Rattle.model.proofs.Keeping.{Kept, VAL-step, kept-after}
 
 -- the memory that slot i reads in the cycle with the inputs' values row, after the cycles of rows
@@ -49,6 +50,15 @@ module _ {n : Network} {m : Module} (formed : Formed n) (acyclic : Acyclic n) (o
 
       pub switch-VAL : switchEarlier ≤ x → fetch (memoryAt n m given rows row i) p x k ≡ VAL n given (drop age (row ∷ rows)) s
       switch-VAL switch = carries-VAL (λ e above. absurd (omega arith))
+
+    -- What an operand of a gate fetches inside the cycle: VAL of its source, of this cycle for a rank-order gate, of the one before it for
+    -- a unit-delay gate
+    pub operand-fetched : {p i : ℕ} → At m p i → 1 ≤ m .signal p i → IsGate (n .kind (m .signal p i)) → (j : ℕ) → j < 4
+        → operand m (memoryAt n m given rows row i) p i j
+        ≡ valueOf (VAL n given (drop (wanted (n .kind (m .signal p i))) (row ∷ rows))) (n .source (m .signal p i) j)
+    operand-fetched =
+        operand-past ok formed (λ age. VAL n given (drop age (row ∷ rows))) (VAL-step formed acyclic ok given row rows)
+        (kept-after formed acyclic ok given rows .holds)
 
     -- 01's traps: "reading the present half at a slot not yet stored (two cycles old)", from cycle 2 on
     pub present-unstored-two-old : (p i k : ℕ) → At m p k → 1 ≤ m .signal p k → i ≤ k → 1 ≤ length rows

@@ -218,6 +218,11 @@ module _ {n : Network} {m : Module} (ok : Scheduled n m) where
         → fetch (slots n m row i u) p x k ≡ past age s
     carries-past {i} = fetched refl (all-slots i)
 
+    -- and an operand of a gate fetches its source there, of the cycle that the gate takes it from
+    pub operand-past : {p i : ℕ} → At m p i → 1 ≤ m .signal p i → IsGate (n .kind (m .signal p i)) → (j : ℕ) → j < 4
+        → operand m (slots n m row i u) p i j ≡ valueOf (past (wanted (n .kind (m .signal p i)))) (n .source (m .signal p i) j)
+    operand-past {i} a some = operand-right refl (all-slots i) a some
+
     -- one cycle
     pub next-cycle : Holds m past (suc t) (cycle n m row u)
     unfolding cycle alternate

@@ -3,7 +3,6 @@ use Prim.Native.Nat.{ℕ}
 use mathlib.Core.Path.{_≡_}
 use mathlib.Core.List.{List}
 use Rattle.logic.specs.Choice.{if_then_else_}
-use Rattle.model.specs.Machine.{Memory}
 use Rattle.model.specs.Session.{sameLengths, Outcome}
 use Rattle.buffers_range.specs.Ranges.{ranged}
 use Rattle.session_answers.specs.declared.CallAnswer.the-variants.{WrongLength, OutOfRange}
@@ -21,7 +20,7 @@ readyOf b =
     Refused WrongLength
 
 -- the bits that a call answers, and the panel that it leaves, are those of an outcome; the panel's own head, written back, changes no byte
-pub record Writes (o : Outcome Memory) (panel : List ℕ) (bits : ℕ) (left : List ℕ) : Type 0 where
+pub record Writes {State : Type 0} (o : Outcome State) (panel : List ℕ) (bits : ℕ) (left : List ℕ) : Type 0 where
   pub answer : bits ≡ answerBits (o .answer)
   pub written : left ≡ withHead (o .head) panel
   pub own : withHead (headIn panel) panel ≡ panel

@@ -45,8 +45,9 @@ module _ (panel : List ℕ) (s : ℕ) (r : Bool) (e : r ≡ signalIn panel s) wh
   input-goes-on h = rw (passes r (signalIn panel s) e h)
 
 -- if a command's outcome is known by an equation, what it tells is told by that
-pub tells : (o p : Outcome Memory) (told : Told) → o ≡ p → callAnswer (told .answer) ≡ p .answer → headOf (told .session) ≡ p .head → Tells o told
-tells o p told e a b = record { answer = a ∙ sym (ap (λ (x : Outcome Memory). x .answer) e); head = b ∙ sym (ap (λ (x : Outcome Memory). x .head) e) }
+pub tells : {State : Type 0} (o p : Outcome State) (told : Told) → o ≡ p → callAnswer (told .answer) ≡ p .answer → headOf (told .session) ≡ p .head → Tells o told
+tells {State} o p told e a b =
+    record { answer = a ∙ sym (ap (λ (x : Outcome State). x .answer) e); head = b ∙ sym (ap (λ (x : Outcome State). x .head) e) }
 
 module _ (panel program memory : List ℕ) (h : Head) (s : ℕ) where
   abbrev leaves : Call → Check → Outcome Memory

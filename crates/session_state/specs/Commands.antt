@@ -33,7 +33,7 @@ inputIn panel s = signalIn panel s and eqb (kindIn panel s) input
 abbrev pub withValue : Head → ℕ → ℕ → Head
 withValue h s v = record { finished = h .finished; hand = replaced (h .hand) s v; watch = h .watch }
 
--- a command's answer and the session that it hands back are those of an outcome
-pub record Tells (o : Outcome Memory) (told : Told) : Type 0 where
+-- a command's answer and the session that it hands back are those of an outcome, whatever the engine's state
+pub record Tells {State : Type 0} (o : Outcome State) (told : Told) : Type 0 where
   pub answer : callAnswer (told .answer) ≡ o .answer
   pub head : headOf (told .session) ≡ o .head
