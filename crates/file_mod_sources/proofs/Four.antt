@@ -1,26 +1,18 @@
 -- Four judgements in a row, r of f 0 and so on: the first that fails decides, else the fourth does.
 use Prim.Native.Nat.{ℕ}
-use mathlib.Core.Path.{_≡_, refl, sym, _∙_}
+use mathlib.Core.Path.{_≡_, sym, _∙_}
 use mathlib.Core.Bool.{Bool, true, false, not}
 use Rattle.logic.specs.Test.{_and_, all}
+use Rattle.logic.proofs.Tests.{all-four}
 use Rattle.logic.proofs.Judged.{chain-stops, chain-goes-on}
 
 module _ (f : ℕ → Bool) (r0 : Bool) (e0 : r0 ≡ f 0) where
-  in-row : all 4 f ≡ f 0 and f 1 and f 2 and f 3
-  unfolding all _and_
-  in-row = four (f 0) (f 1) (f 2) (f 3)
-    where
-      four : (a b c d : Bool) → ((a and b) and c) and d ≡ a and b and c and d
-      four true true c d = refl
-      four true false c d = refl
-      four false b c d = refl
-
   pub first-wrong : not r0 ≡ true → false ≡ all 4 f
-  first-wrong h = sym (in-row ∙ chain-stops r0 (f 0) (f 1 and f 2 and f 3) e0 h)
+  first-wrong h = sym (all-four f ∙ chain-stops r0 (f 0) (f 1 and f 2 and f 3) e0 h)
 
   module _ (h0 : not r0 ≡ false) (r1 : Bool) (e1 : r1 ≡ f 1) where
     after-first : all 4 f ≡ f 1 and f 2 and f 3
-    after-first = in-row ∙ chain-goes-on r0 (f 0) (f 1 and f 2 and f 3) e0 h0
+    after-first = all-four f ∙ chain-goes-on r0 (f 0) (f 1 and f 2 and f 3) e0 h0
 
     pub second-wrong : not r1 ≡ true → false ≡ all 4 f
     second-wrong h = sym (after-first ∙ chain-stops r1 (f 1) (f 2 and f 3) e1 h)
