@@ -6,15 +6,10 @@ ghost use lib.ListN.{length, getD};
 ghost use Rattle.instruction.specs.Operand.{operandOf};
 ghost use Rattle.buffers_tables.specs.Panel.{panelLength, codesIn};
 ghost use Rattle.buffers_tables.specs.Program.{programLength, lineIn, instructionIn};
+use clock::Slot;
 use gates::Gate;
 use instruction::Instruction;
 use instruction::Operand;
-
-// The number of a slot: the source's instruction cycle.
-pub struct Slot(pub u16);
-
-// A number of simulation cycles. It is no slot number.
-pub struct Cycle(pub u16);
 
 // Where the line of a processor and a slot stands in the program.
 pub fn line_offset(processor: usize, slot: Slot) -> usize

@@ -10,7 +10,7 @@ use denote.Ref.{now}
 use denote.Triple.Clauses.{AtExit}
 use borrow.Fn.Kinds.{Dens, resT, endedOf}
 use Rattle.model.specs.Files.{Files, filesOf}
-use Rattle.buffers_tables.specs.declared.Cycle.{Cycle}
+use Rattle.clock.specs.declared.Cycle.{Cycle}
 use Rattle.file_checks.specs.Answer.{fileRefusal}
 use Rattle.listing.specs.declared.Lister.{Lister}
 use Rattle.listing_cycle.specs.Changes.{pieceLength}

@@ -11,7 +11,7 @@ ghost use Rattle.buffers_tables.specs.Panel.{panelLength};
 ghost use Rattle.buffers_tables.specs.Program.{programLength};
 ghost use Rattle.listing_cycle.specs.Changes.{pieceLength, shownLength};
 ghost use Rattle.listing.specs.Standing.{Stands, Standing, Gives};
-use buffers_tables::Cycle;
+use clock::Cycle;
 use file_stim::Cursor;
 use session_state::Session;
 

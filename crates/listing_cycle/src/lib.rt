@@ -13,7 +13,7 @@ ghost use Rattle.session_state.specs.Header.{headOf, withHead};
 ghost use Rattle.listing_cycle.specs.Changes.{pieceLength, shownLength, valueHeld, changeLine, changeLines, shownWith};
 ghost use Rattle.listing_cycle.specs.Feeding.{Stimulus, Passed, Fed};
 ghost use Rattle.listing_cycle.specs.Cycling.{Ready, InPanel, cycled};
-use buffers_tables::Cycle;
+use clock::Cycle;
 use file_stim::Cursor;
 use file_stim::Step;
 use session_state::Session;

@@ -9,6 +9,7 @@ ghost use Rattle.model.specs.Acceptance.{panelLimit, fileCheck, Accepted};
 ghost use Rattle.model.specs.Stimulus.{stimCount};
 ghost use Rattle.file_checks.specs.Answer.{fileRefusal};
 ghost use Rattle.listing_print.specs.Handing.{partAt, partCount, partsAfter, Handing};
+use clock::Cycle;
 use file_checks::FileAnswer;
 use libc::STDOUT_FILENO;
 
@@ -93,7 +94,8 @@ pub fn print_listing(
         &mut memory,
         &mut shown,
     );
-    let count = listing::piece_count(lister.end);
+    let end: Cycle = lister.end;
+    let count = listing::piece_count(end);
     for _ in 0..count {
         let next = lister.step(
             stim,

@@ -1,7 +1,7 @@
 // The lockstep machine over the working tables: a cycle, and k cycles with the watch (01, One cycle of the machine, Session).
 
-use buffers_tables::Cycle;
-use buffers_tables::Slot;
+use clock::Cycle;
+use clock::Slot;
 use instruction::Operand;
 ghost use mathlib.Core.Path.{_≡_};
 ghost use Prim.Native.Nat.{_<_, _≤_};

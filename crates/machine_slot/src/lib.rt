@@ -1,6 +1,6 @@
 // One slot of the lockstep machine: "every processor fetches first, then stores" (01, One cycle of the machine).
 
-use buffers_tables::Slot;
+use clock::Slot;
 use instruction::Instruction;
 ghost use mathlib.Core.Path.{_≡_};
 ghost use Prim.Native.Nat.{_<_, _≤_};

@@ -13,7 +13,7 @@ ghost use Rattle.machine_run.specs.Running.{Watching};
 ghost use Rattle.session_state.specs.Header.{headIn, headOf, withHead};
 ghost use Rattle.session_state.specs.Stores.{wordStored, numbersStored, handStored};
 ghost use Rattle.session_state.specs.Commands.{signalIn, inputIn, withValue, commanded, Tells};
-use buffers_tables::Cycle;
+use clock::Cycle;
 use session_answers::CallAnswer;
 
 // "the one watch": its signal, and the mask of the values that it watches.

@@ -33,7 +33,7 @@ open-requires c κs =
 
 loop-holds : tie.Need-loop-holds Inv-loop μ-loop
 loop-holds c =
-    let opened = c .before .before .before .before .before in
+    let opened = c .before .before .before .before .before .before in
     let buffers = opened .before .before .before .before .before in
     let s = buffers .before .before .before .before .before .before .before in
     let g : length (buffers .piece-buffer .result) ≡ pieceLength = search needs in
