@@ -1,16 +1,17 @@
--- What a panel reads after a head is written into it: the head's own numbers, and all others as before.
+-- What a panel reads after a head, or values in hand, are written into it: these numbers, and the same tables.
 use Prim.Native.Nat.{ℕ, zero, suc, _+_, _*_, _/_, _%_, _<_, _≤_}
-use mathlib.Core.Path.{_≡_, refl, sym, _∙_, ap}
+use mathlib.Core.Path.{_≡_, refl, _∙_, ap}
 use mathlib.Core.List.{List}
 use native.Mathlib.Omega.{arith}
 use lib.ListN.{length, getD}
 use borrow.Author.Tests.{ne-eqb}
 use Rattle.logic.proofs.Listed.{listed-length, listed-at}
-use Rattle.gates.specs.Gate.{gate}
 use Rattle.model.specs.Session.{Head}
-use Rattle.buffers_tables.specs.Panel.{panelLength, signalsIn, processorsIn, slotsIn, finishedIn, watchedIn, maskIn, kindIn, codesIn, handIn, processorIn, slotIn}
-use Rattle.buffers_tables.specs.Tables.{networkIn, moduleIn}
+use Rattle.buffers_tables.specs.Panel.{panelLength, finishedIn, watchedIn, maskIn, handIn}
 use Rattle.session_state.specs.Header.{headBytes, headByte, withHead}
+use Rattle.session_state.specs.Carried.{withHand}
+use Rattle.session_state.proofs.Hands.{with-hand-length, with-hand-kept}
+use Rattle.laws_kept.proofs.Tables.{SameTables}
 
 module _ (h : Head) (panel : List ℕ) where
   pub with-head-length : length (withHead h panel) ≡ panelLength
@@ -26,7 +27,7 @@ module _ (h : Head) (panel : List ℕ) where
       ∙ ap (λ (x : ℕ). headByte h panel row x) f
 
   -- the session's ten
-  pub session-byte : (a : ℕ) → a < 10 → getD (withHead h panel) a 0 ≡ getD (headBytes h panel) a 0
+  session-byte : (a : ℕ) → a < 10 → getD (withHead h panel) a 0 ≡ getD (headBytes h panel) a 0
   unfolding headByte
   session-byte a l = byte-at a 0 a (omega arith) (omega arith) (omega arith)
 
@@ -41,24 +42,7 @@ module _ (h : Head) (panel : List ℕ) where
   other-byte zero column low d = absurd (omega arith)
   other-byte (suc s) column low d = rw (ne-eqb column 7 d)
 
-  pub with-head-kept : (a : ℕ) → 10 ≤ a → a < panelLength → (a % 10 ≡ 7 → ⊥) → getD (withHead h panel) a 0 ≡ getD panel a 0
-  with-head-kept a low high d =
-      let e : 10 * (a / 10) + a % 10 ≡ a = omega arith in
-      byte-at a (a / 10) (a % 10) high refl refl
-      ∙ other-byte (a / 10) (a % 10) (omega arith) d
-      ∙ ap (λ (x : ℕ). getD panel x 0) e
-
-  -- N, P and C stay
-  pub with-head-signals : signalsIn (withHead h panel) ≡ signalsIn panel
-  with-head-signals = rw (session-byte 0 (omega arith), session-byte 1 (omega arith))
-
-  pub with-head-processors : processorsIn (withHead h panel) ≡ processorsIn panel
-  with-head-processors = session-byte 2 (omega arith)
-
-  pub with-head-slots : slotsIn (withHead h panel) ≡ slotsIn panel
-  with-head-slots = rw (session-byte 3 (omega arith), session-byte 4 (omega arith))
-
-  -- the cycles finished and the watch are the head's
+  -- the cycles finished and the watch
   pub with-head-finished : finishedIn (withHead h panel) ≡ h .finished
   with-head-finished = rw (session-byte 5 (omega arith), session-byte 6 (omega arith)) (omega arith)
 
@@ -68,48 +52,29 @@ module _ (h : Head) (panel : List ℕ) where
   pub with-head-mask : maskIn (withHead h panel) ≡ h .watch .mask
   with-head-mask = session-byte 9 (omega arith)
 
-  -- the other numbers of a signal stay
-  module _ (s : ℕ) (low : 1 ≤ s) (high : s ≤ 4096) where
-    pub with-head-column : (column : ℕ) → column < 10 → (column ≡ 7 → ⊥) → getD (withHead h panel) (10 * s + column) 0 ≡ getD panel (10 * s + column) 0
-    with-head-column column l d =
-        let e : (10 * s + column) % 10 ≡ column = omega arith in
-        with-head-kept (10 * s + column) (omega arith) (omega arith) (λ q. d (sym e ∙ q))
+  pub with-head-tables : SameTables panel (withHead h panel)
+  with-head-tables = record { size = with-head-length; numbers = number; signals = signal }
+    where
+      number : (a : ℕ) → a < 5 → getD (withHead h panel) a 0 ≡ getD panel a 0
+      number zero l = session-byte 0 (omega arith)
+      number (suc zero) l = session-byte 1 (omega arith)
+      number (suc (suc zero)) l = session-byte 2 (omega arith)
+      number (suc (suc (suc zero))) l = session-byte 3 (omega arith)
+      number (suc (suc (suc (suc zero)))) l = session-byte 4 (omega arith)
+      number (suc (suc (suc (suc (suc a))))) l = absurd (omega arith)
 
-    pub with-head-kind : kindIn (withHead h panel) s ≡ kindIn panel s
-    with-head-kind = with-head-kept (10 * s) (omega arith) (omega arith) (λ q. omega arith)
+      signal : (a : ℕ) → 10 ≤ a → a < panelLength → (a % 10 ≡ 7 → ⊥) → getD (withHead h panel) a 0 ≡ getD panel a 0
+      signal a low high d =
+          let e : 10 * (a / 10) + a % 10 ≡ a = omega arith in
+          byte-at a (a / 10) (a % 10) high refl refl
+          ∙ other-byte (a / 10) (a % 10) (omega arith) d
+          ∙ ap (λ (x : ℕ). getD panel x 0) e
 
-    pub with-head-codes : codesIn (withHead h panel) s ≡ codesIn panel s
-    with-head-codes =
-        rw (
-          with-head-column 1 (omega arith) (λ q. omega arith),
-          with-head-column 2 (omega arith) (λ q. omega arith),
-          with-head-column 3 (omega arith) (λ q. omega arith),
-          with-head-column 4 (omega arith) (λ q. omega arith),
-          with-head-column 5 (omega arith) (λ q. omega arith),
-          with-head-column 6 (omega arith) (λ q. omega arith),
-        )
-
-    pub with-head-processor : processorIn (withHead h panel) s ≡ processorIn panel s
-    with-head-processor = with-head-column 8 (omega arith) (λ q. omega arith)
-
-    pub with-head-slot : slotIn (withHead h panel) s ≡ slotIn panel s
-    with-head-slot = with-head-column 9 (omega arith) (λ q. omega arith)
-
-  -- the module is the same, and so is the network at every signal
-  pub with-head-module : (program : List ℕ) → moduleIn (withHead h panel) program ≡ moduleIn panel program
-  unfolding moduleIn
-  with-head-module program = rw (with-head-processors, with-head-slots)
-
-  module _ (program : List ℕ) where
-    pub with-head-size : networkIn (withHead h panel) program .size ≡ networkIn panel program .size
-    unfolding networkIn
-    with-head-size = with-head-signals
-
-    module _ (s : ℕ) (low : 1 ≤ s) (high : s ≤ 4096) where
-      pub with-head-network-kind : networkIn (withHead h panel) program .kind s ≡ networkIn panel program .kind s
-      unfolding networkIn
-      with-head-network-kind = with-head-kind s low high
-
-      pub with-head-gate : networkIn (withHead h panel) program .gate s ≡ networkIn panel program .gate s
-      unfolding networkIn
-      with-head-gate = ap gate (with-head-codes s low high)
+module _ (hand : ℕ → ℕ) (panel : List ℕ) where
+  pub with-hand-tables : SameTables panel (withHand hand panel)
+  with-hand-tables =
+      record {
+        size = with-hand-length hand panel;
+        numbers = λ a l. with-hand-kept hand panel a (omega arith) (λ u e. omega arith);
+        signals = λ a low high d. with-hand-kept hand panel a high (λ u e. d e);
+      }

@@ -22,7 +22,7 @@ use Rattle.session_state.specs.Header.{headIn}
 use Rattle.buffers_lengths.specs.Lengths.{fixed}
 use Rattle.session_calls.specs.Reply.{Buffers}
 use Rattle.session_calls.proofs.Replies.{checkIn, outcomeIn}
-use Rattle.laws_kept.specs.Sound.{InRange}
+use Rattle.laws_kept.specs.InRange.{InRange}
 use Rattle.laws_kept.proofs.Panels.{head-in-range, with-value-in-range}
 use Rattle.laws_kept.proofs.Memories.{small-in, run-small}
 

@@ -12,14 +12,13 @@ use Rattle.buffers_memory.proofs.Written.{written-length}
 use Rattle.buffers_tables.specs.Panel.{panelLength, processorsIn, slotsIn}
 use Rattle.buffers_tables.specs.Holding.{Holding}
 use Rattle.buffers_range.specs.Ranges.{ranged}
-use Rattle.buffers_range.proofs.Ranged.{Values, is-ranged, panel-in-range, program-in-range, memory-in-range, head-ranged}
-use Rattle.session_state.specs.Header.{withHead}
+use Rattle.buffers_range.proofs.Ranged.{memory-in-range, head-ranged}
 use Rattle.session_calls.specs.Reply.{Buffers, lengthsOf, leaving, reply, Reply}
-use Rattle.laws_kept.proofs.Heads.{with-head-length, with-head-processors, with-head-slots}
-use Rattle.laws_kept.proofs.Holding.{with-head-holding}
+use Rattle.laws_kept.proofs.Tables.{same-holding}
+use Rattle.laws_kept.proofs.Heads.{with-head-length, with-head-tables}
 use Rattle.buffers_lengths.specs.Lengths.{fixed}
 use Rattle.session_calls.proofs.Replies.{outcomeIn, reply-44, Leaves, done, stays, reply-leaves}
-use Rattle.laws_kept.proofs.Panels.{with-head-panel, with-head-program}
+use Rattle.laws_kept.proofs.Panels.{with-head-ranged}
 use Rattle.laws_kept.proofs.Memories.{with-memory-values}
 use Rattle.laws_kept.proofs.Outcomes.{outcome-kept}
 
@@ -47,25 +46,11 @@ module _ (b : Buffers) (c : Call) (lent : sameLengths (lengthsOf b) fixed ≡ tr
       go false r = subst (λ (d : Buffers). sameLengths (lengthsOf d) fixed ≡ true) (sym (ap (λ (x : Reply). x .buffers) (reply-44 b c lent r))) lent
 
   module _ (r : ranged (b .panel) (b .program) (b .memory) ≡ true) where
-    -- the memory under the panel with its new head
-    left-values : Values (withHead (outcomeIn b c .head) (b .panel)) (leaving b (outcomeIn b c) .memory)
-    left-values =
-        let h = outcomeIn b c .head in
-        let v =
-        with-memory-values (b .panel) (b .program) (b .memory) (outcomeIn b c .state) (outcome-kept b r c .state)
-        (memory-in-range (b .panel) (b .program) (b .memory) r) in
-        record {
-          values = v .values;
-          rest = λ a e. v .rest a (rw (with-head-processors h (b .panel), with-head-slots h (b .panel)) at e);
-        }
-
     left-ranged : ranged (leaving b (outcomeIn b c) .panel) (b .program) (leaving b (outcomeIn b c) .memory) ≡ true
     left-ranged =
-        let h = outcomeIn b c .head in
-        is-ranged _ (b .program) _
-        (with-head-panel h (b .panel) (outcome-kept b r c .head) (panel-in-range (b .panel) (b .program) (b .memory) r))
-        (with-head-program h (b .panel) (b .program) (program-in-range (b .panel) (b .program) (b .memory) r))
-        left-values
+        with-head-ranged (outcomeIn b c .head) (b .panel) (b .program) (b .memory) _ (outcome-kept b r c .head) r
+        (with-memory-values (b .panel) (b .program) (b .memory) (outcomeIn b c .state) (outcome-kept b r c .state)
+        (memory-in-range (b .panel) (b .program) (b .memory) r))
 
     pub reply-ranged : ranged (reply b c .buffers .panel) (reply b c .buffers .program) (reply b c .buffers .memory) ≡ true
     reply-ranged = kept r (λ d. ranged (d .panel) (d .program) (d .memory) ≡ true) r left-ranged
@@ -73,7 +58,7 @@ module _ (b : Buffers) (c : Call) (lent : sameLengths (lengthsOf b) fixed ≡ tr
     module _ {n : Network} {m : Module} (holding : Holding n m (b .panel) (b .program)) where
       left-holding : Holding n m (leaving b (outcomeIn b c) .panel) (b .program)
       left-holding =
-          with-head-holding (outcomeIn b c .head) (b .panel) (b .program)
+          same-holding (with-head-tables (outcomeIn b c .head) (b .panel)) (b .program)
           (head-ranged (b .panel) (b .program) (b .memory) r .signals-high) holding
 
       pub reply-holding : Holding n m (reply b c .buffers .panel) (reply b c .buffers .program)

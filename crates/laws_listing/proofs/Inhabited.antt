@@ -9,7 +9,7 @@ use native.Mathlib.Decide.{ℕ-discrete, decLt}
 use lib.ListN.{length, getD, take}
 use lib.Seq.{sets}
 use Rattle.logic.specs.Listed.{listed}
-use Rattle.logic.proofs.Listed.{listed-length, listed-at}
+use Rattle.logic.proofs.Listed.{listed-length}
 use Rattle.writing.specs.Text.{lineText}
 use Rattle.model.specs.Refusal.{Check, pass, fail}
 use Rattle.model.specs.Files.{Files}
@@ -17,27 +17,21 @@ use Rattle.model.specs.Netlist.{netCheck}
 use Rattle.model.specs.ModuleFile.{modCheck}
 use Rattle.model.specs.Stimulus.{stimTime, stimSignal, stimValue, stimCheck, stimCount, endTime}
 use Rattle.model.specs.Acceptance.{panelLimit, networkOf, fileCheck, Accepted}
-use Rattle.model.specs.Session.{Head}
 use Rattle.model.specs.Listing.{printed}
 use Rattle.model.specs.Demands.{Demand2}
-use Rattle.model.proofs.Checked.{panel-few}
 use Rattle.model.proofs.Refusals.{pass-not-fail, first-both}
 use Rattle.model.proofs.Accepted.{stim-accepted}
 use Rattle.buffers_memory.specs.Memory.{memoryOf, withMemory}
-use Rattle.buffers_tables.specs.Panel.{signalsIn, processorsIn, slotsIn, handIn}
+use Rattle.buffers_tables.specs.Panel.{signalsIn, processorsIn, slotsIn, finishedIn, watchedIn, maskIn}
 use Rattle.machine_run.specs.Running.{cycleIn}
 use Rattle.buffers_load_files.specs.Loaded.{panelOf, programOf, openingBytes}
-use Rattle.buffers_load.proofs.Loaded.{loaded-tables}
 use Rattle.file_checks.specs.declared.FileAnswer.the-variants.{Refused}
 use Rattle.session_state.specs.declared.Session.{Session}
-use Rattle.session_state.specs.Header.{headIn, headOf, withHead}
-use Rattle.session_state.proofs.Heads.{same-head, past-end, decoded}
 use Rattle.file_stim.proofs.Steps.{GivenAt}
 use Rattle.listing.specs.declared.Lister.{Lister}
 use Rattle.listing.specs.declared.Piece.{Piece}
 use Rattle.listing_cycle.specs.Changes.{pieceLength, shownLength, notShown, valueHeld, changeLines, shownWith}
 use Rattle.listing_cycle.specs.Feeding.{Fed}
-use Rattle.listing_cycle.specs.Cycling.{cycled}
 use Rattle.listing.specs.Pieces.{pieceCount}
 use Rattle.listing.specs.Buffers.{lineAt}
 use Rattle.listing.specs.Standing.{Stands, Gives}
@@ -45,28 +39,9 @@ use Rattle.laws_listing.specs.Reading.{firstBytes}
 use Rattle.laws_listing.specs.Printing.{inOrder, Steps, over, more, Prints, net-refused, mod-refused, stim-refused, listed as all-listed}
 use Rattle.listing_cycle.proofs.Feeding.{fed-starts, fed-more}
 use Rattle.listing.proofs.Lines.{lines-passed}
-use Rattle.listing.proofs.Standing.{right-signals, stands-few, stands-sound, at-count, by-count, gives-last, gives-zeroth, gives-later}
+use Rattle.listing.proofs.Standing.{right-signals, stands-few, at-count, by-count, gives-last, gives-zeroth, gives-later}
 use Rattle.listing.proofs.Opening.{opened}
 use Rattle.laws_listing.proofs.Printed.{program-prints, program-demand-2}
-
--- a session that has a head
-abbrev sessionOf : Head → Session
-sessionOf h =
-    record {
-      finished = record { 0 = h .finished };
-      watch = record { signal = h .watch .signal; mask = h .watch .mask };
-      hand = listed 4097 (h .hand);
-    }
-
-session-head : (h : Head) → ((s : ℕ) → 4096 < s → h .hand s ≡ 0) → headOf (sessionOf h) ≡ h
-session-head h beyond = same-head _ _ _ _ _ _ _ _ refl hand refl refl
-  where
-    hand : (s : ℕ) → getD (listed 4097 (h .hand)) s 0 ≡ h .hand s
-    hand s = go (decLt 4096 s)
-      where
-        go : Dec (4096 < s) → getD (listed 4097 (h .hand)) s 0 ≡ h .hand s
-        go (yes q) = past-end (listed 4097 (h .hand)) s (omega (arith, listed-length 4097 (h .hand))) ∙ sym (beyond s q)
-        go (no d) = listed-at 4097 (h .hand) s (omega arith)
 
 -- a line of STIM before its end line
 line-given : (stim : List ℕ) (line : ℕ) → line < stimCount stim
@@ -74,23 +49,23 @@ line-given : (stim : List ℕ) (line : ℕ) → line < stimCount stim
 line-given stim line l = record { before-end = l; time-is = refl; signal-is = refl; value-is = refl; follows = refl }
 
 -- the settings of a time
-record Settled (stim panel : List ℕ) (t line : ℕ) (before : Head) : Type 0 where
-  head : Head
+record Settled (stim panel : List ℕ) (t line : ℕ) : Type 0 where
+  left : List ℕ
   next : ℕ
-  fed : Fed stim panel t line before head next
+  fed : Fed stim panel t line left next
   stops : next < stimCount stim → stimTime stim next ≡ t → ⊥
 
-settles : {stim panel : List ℕ} {t line : ℕ} {before h : Head} {at : ℕ} (n : ℕ) → stimCount stim ≤ at + n → Fed stim panel t line before h at
-    → Settled stim panel t line before
-settles {h = h} {at} zero b fed = record { head = h; next = at; fed = fed; stops = λ l q. absurd (omega arith) }
-settles {stim} {panel} {t} {line} {before} {h} {at} (suc n) b fed =
-    go (λ h′ fed. settles {h = h′} n (omega arith) fed) (decLt at (stimCount stim)) (ℕ-discrete (stimTime stim at) t)
+settles : {stim panel : List ℕ} {t line : ℕ} {now : List ℕ} {at : ℕ} (n : ℕ) → signalsIn panel ≤ 4096 → stimCount stim ≤ at + n → Fed stim panel t line now at
+    → Settled stim panel t line
+settles {now = now} {at} zero few b fed = record { left = now; next = at; fed = fed; stops = λ l q. absurd (omega arith) }
+settles {stim} {panel} {t} {line} {now} {at} (suc n) few b fed =
+    go (λ left fed. settles {now = left} n few (omega arith) fed) (decLt at (stimCount stim)) (ℕ-discrete (stimTime stim at) t)
   where
-    go : ((h′ : Head) → Fed stim panel t line before h′ (at + 1) → Settled stim panel t line before) → Dec (at < stimCount stim)
-        → Dec (stimTime stim at ≡ t) → Settled stim panel t line before
-    go rest (yes l) (yes q) = rest _ (fed-more fed (line-given stim at l) q _ refl)
-    go rest (yes l) (no d) = record { head = h; next = at; fed = fed; stops = λ b q. d q }
-    go rest (no d) q = record { head = h; next = at; fed = fed; stops = λ b q. absurd (d b) }
+    go : ((left : List ℕ) → Fed stim panel t line left (at + 1) → Settled stim panel t line) → Dec (at < stimCount stim)
+        → Dec (stimTime stim at ≡ t) → Settled stim panel t line
+    go rest (yes l) (yes q) = rest _ (fed-more fed (line-given stim at l) q few 0 (record { signal = 1; mask = 0 }) _ refl)
+    go rest (yes l) (no d) = record { left = now; next = at; fed = fed; stops = λ b q. d q }
+    go rest (no d) q = record { left = now; next = at; fed = fed; stops = λ b q. absurd (d b) }
 
 -- a step that meets the contract of `Lister::step`
 record Stepped (lent stim program : List ℕ) (l : Lister) (panel memory shown : List ℕ) : Type 0 where
@@ -128,25 +103,30 @@ module _ {files : Files} {k : ℕ} {l : Lister} {stim panel program memory shown
 
   steps-later : (l .pieces ≡ 0 → ⊥) → l .pieces ≤ l .end .0 → Stepped lent stim program l panel memory shown
   steps-later d h =
-      let settled : Settled stim panel (l .pieces) (l .cursor .line) (headOf (l .session)) =
-      settles (stimCount stim) (omega arith) (fed-starts stim panel (l .pieces) (l .cursor .line) (headOf (l .session)) (stands-few s)) in
-      let fresh = withHead (settled .head) panel in
-      let after = withMemory (processorsIn panel) (slotsIn panel) (cycleIn fresh program (memoryOf memory)) memory in
-      let text = changeLines (signalsIn fresh) (l .pieces) (valueHeld fresh after) (λ x. getD shown x 0) in
-      let sound = settled .fed .sound (right-signals (s .right)) (stands-sound s) in
+      let settled : Settled stim panel (l .pieces) (l .cursor .line) =
+      settles (stimCount stim) (right-signals (s .right)) (omega arith)
+      (fed-starts stim panel (l .pieces) (l .cursor .line) (s .right .sizes .panel-size) (stands-few s)) in
+      let fed = settled .left in
+      let after = withMemory (processorsIn fed) (slotsIn fed) (cycleIn fed program (memoryOf memory)) memory in
+      let text = changeLines (signalsIn fed) (l .pieces) (valueHeld fed after) (λ x. getD shown x 0) in
       record {
         piece = record {
-          lister = record { session = sessionOf (cycled (settled .head)); cursor = record { line = settled .next }; end = l .end; pieces = l .pieces + 1 };
+          lister = record {
+            session = record { finished = record { 0 = l .session .finished .0 + 1 }; watch = l .session .watch };
+            cursor = record { line = settled .next };
+            end = l .end;
+            pieces = l .pieces + 1;
+          };
           length = length text;
         };
         out = sets lent 0 text;
-        panel′ = fresh;
+        panel′ = fed;
         memory′ = after;
-        shown′ = shownWith (signalsIn fresh) (valueHeld fresh after) (λ x. getD shown x 0);
+        shown′ = shownWith (signalsIn fed) (valueHeld fed after) (λ x. getD shown x 0);
         gives = λ files k z.
             by-count z
-            (gives-later (l .pieces) (at-count z) d h (settled .fed) (settled .stops) fresh refl after refl lent _ _ _ refl refl refl
-            (session-head (cycled (settled .head)) (sound .beyond)) refl refl refl);
+            (gives-later {ready = l .session} after (l .pieces) (at-count z) d h (settled .fed) (settled .stops) (refl, refl) refl lent _ _ _ refl refl refl
+            (refl, refl) refl refl refl);
       }
 
   steps-once : Stepped lent stim program l panel memory shown
@@ -183,15 +163,16 @@ module _ (files : Files) (accepted : Accepted panelLimit files) where
   abbrev panel : List ℕ
   panel = panelOf files
 
+  abbrev session : Session
+  session = record { finished = record { 0 = finishedIn panel }; watch = record { signal = watchedIn panel; mask = maskIn panel } }
+
   abbrev lister : Lister
-  lister = record { session = sessionOf (headIn panel); cursor = record { line = lineAt files 0 }; end = record { 0 = endTime (files .STIM) }; pieces = 0 }
+  lister = record { session = session; cursor = record { line = lineAt files 0 }; end = record { 0 = endTime (files .STIM) }; pieces = 0 }
 
   opens : Stands files 0 lister (files .STIM) panel (programOf files) (openingBytes files) (listed shownLength (λ a. notShown))
   opens =
-      let size = loaded-tables panel-few files accepted .panel-size in
       opened files accepted lister panel (programOf files) (openingBytes files) (listed shownLength (λ a. notShown))
-      refl refl refl
-      (decoded panel (listed 4097 (handIn panel)) size refl _ _ _ refl refl refl)
+      refl refl refl refl
       (lines-passed (networkOf files) (files .STIM) (stim-accepted panelLimit files accepted) 0) refl refl refl
 
   lists : (text : List ℕ) × Prints files text

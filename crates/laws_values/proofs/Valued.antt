@@ -11,7 +11,7 @@ use Rattle.model.specs.Value.{start}
 use Rattle.model.specs.Module.{Module}
 use Rattle.model.specs.Machine.{Memory, cycle, opening}
 use Rattle.model.specs.ModuleFile.{moduleOf}
-use Rattle.model.specs.Session.{runs, ticks, watched}
+use Rattle.model.specs.Session.{Watch, runs, ticks, watched}
 use Rattle.model.specs.Acceptance.{panelLimit, networkOf, moduleOfFiles, givenOf, Accepted}
 use Rattle.model.proofs.Conditions.{Formed, Acyclic, Scheduled}
 use Rattle.model.proofs.Value.{SameInputs}
@@ -22,10 +22,10 @@ use Rattle.model.proofs.Accepted.{mod-accepted, mod-processors, mod-slots}
 use Rattle.model.proofs.Demands.{accepted-formed, accepted-acyclic, accepted-scheduled}
 use Rattle.buffers_memory.specs.Memory.{memoryLength, memoryOf, withMemory}
 use Rattle.buffers_memory.proofs.Near.{with-memory-near}
-use Rattle.buffers_tables.specs.Panel.{processorsIn, slotsIn, maskIn, handIn}
+use Rattle.buffers_tables.specs.Panel.{processorsIn, slotsIn, handIn}
 use Rattle.buffers_tables.specs.Tables.{networkIn, moduleIn}
 use Rattle.buffers_tables.specs.Holding.{Holding}
-use Rattle.machine_run.specs.Running.{cycleIn, watchedValue, runIn}
+use Rattle.machine_run.specs.Running.{cycleIn, valueIn, runIn}
 use Rattle.buffers_load_files.specs.Loaded.{openingBytes}
 use Rattle.laws_values.proofs.Same.{cycle-same}
 
@@ -96,13 +96,13 @@ module _ {limit : ℕ} (few : limit ≤ panelLimit) (files : Files) (accepted : 
         (written-kept (cycleIn panel program (memoryOf bytes)) bytes (row ∷ rows) (cycle-kept row same (memoryOf bytes) rows k))
 
     -- a run, as its contract leaves the bytes
-    pub run-holds : (bytes left : List ℕ) (rows : List (ℕ → ℕ)) (k : ℕ) → Holds bytes rows
-        → left ≡ withMemory (processorsIn panel) (slotsIn panel) (runIn panel program k (memoryOf bytes) .state) bytes
-        → Holds left (ticks (λ r. handIn panel ∷ r) (runIn panel program k (memoryOf bytes) .count) rows)
+    pub run-holds : (bytes left : List ℕ) (rows : List (ℕ → ℕ)) (watch : Watch) (k : ℕ) → Holds bytes rows
+        → left ≡ withMemory (processorsIn panel) (slotsIn panel) (runIn panel program watch k (memoryOf bytes) .state) bytes
+        → Holds left (ticks (λ r. handIn panel ∷ r) (runIn panel program watch k (memoryOf bytes) .count) rows)
     unfolding runIn
-    run-holds bytes left rows k holds e =
-        let ran = runs (cycleIn panel program) (λ w. watched (maskIn panel) (watchedValue panel w)) k (memoryOf bytes) in
-        let exact = runs-exact (cycleIn panel program) (λ w. watched (maskIn panel) (watchedValue panel w)) k (memoryOf bytes) in
+    run-holds bytes left rows watch k holds e =
+        let ran = runs (cycleIn panel program) (λ w. watched (watch .mask) (valueIn panel w (watch .signal))) k (memoryOf bytes) in
+        let exact = runs-exact (cycleIn panel program) (λ w. watched (watch .mask) (valueIn panel w (watch .signal))) k (memoryOf bytes) in
         subst (λ (l : List ℕ). Holds l (ticks (λ r. handIn panel ∷ r) (ran .count) rows)) (sym e)
         (written-kept (ran .state) bytes (ticks (λ r. handIn panel ∷ r) (ran .count) rows)
         (subst (λ (w : Memory). Kept formed acyclic ok (givenOf files) w (ticks (λ r. handIn panel ∷ r) (ran .count) rows)) (sym (exact .state))

@@ -1,28 +1,27 @@
--- What the files say of the buffers after t cycles: the panel holds the network and the module, the values in hand are STIM's and the
+-- What the files say of the buffers after t cycles: the panel holds the network and the module, the inputs' values in hand are STIM's and the
 -- places hold VAL; and one cycle more turns them into what the files say of t + 1.
-use Prim.Native.Nat.{ℕ, zero, suc, _+_, _*_, _/_, _%_, _<_, _≤_}
+use Prim.Native.Nat.{ℕ, zero, suc, _<_, _≤_}
 use mathlib.Core.Path.{_≡_, refl, sym, _∙_, ap}
 use mathlib.Core.Bool.{Bool, true, false}
 use mathlib.Core.List.{List}
 use native.Mathlib.Omega.{arith}
-use native.Mathlib.Decide.{decLt}
-use lib.Dec.{eqb}
+use native.Mathlib.Decide.{ℕ-discrete, decLt}
 use lib.ListN.{getD}
-use borrow.Author.Tests.{lt-ltb, le-ltb, eqb-false}
+use borrow.Author.Tests.{lt-ltb, le-ltb, eq-eqb, ne-eqb}
 use Rattle.logic.specs.Choice.{if_then_else_}
 use Rattle.logic.specs.Listed.{listed}
 use Rattle.logic.proofs.Listed.{listed-length, listed-at, is-listed}
 use Rattle.model.specs.Files.{Files}
-use Rattle.model.specs.Network.{Network, Signal, isSignal}
+use Rattle.model.specs.Network.{Network, Signal, isSignal, input}
 use Rattle.model.specs.Value.{start, history}
 use Rattle.model.specs.Module.{Module}
 use Rattle.model.specs.Machine.{Memory, cycle, opening, after}
 use Rattle.model.specs.ModuleFile.{moduleOf}
 use Rattle.model.specs.Stimulus.{held, endTime}
 use Rattle.model.specs.Acceptance.{panelLimit, networkOf, moduleOfFiles, givenOf, Accepted}
-use Rattle.model.specs.Session.{Head, Watch}
 use Rattle.model.specs.Listing.{valueAt}
 use Rattle.model.proofs.Checked.{panel-few}
+use Rattle.model.proofs.Value.{start-input}
 use Rattle.model.proofs.Chains.{signal-true, signal-test}
 use Rattle.model.proofs.Machine.{Near, near-refl, cycle-rows, cycle-near}
 use Rattle.model.proofs.Keeping.{machine-holds-VAL}
@@ -30,63 +29,23 @@ use Rattle.model.proofs.Demands.{accepted-formed, accepted-acyclic, accepted-sc
 use Rattle.buffers_memory.specs.Memory.{memoryLength, memoryOf, within, withMemory}
 use Rattle.buffers_memory.proofs.Written.{written-same}
 use Rattle.buffers_memory.proofs.Near.{agree-near, with-memory-near, with-memory-step}
-use Rattle.buffers_tables.specs.Panel.{panelLength, signalsIn, handIn}
+use Rattle.buffers_tables.specs.Panel.{signalsIn, handIn}
 use Rattle.buffers_tables.specs.Tables.{networkIn}
 use Rattle.buffers_tables.specs.Holding.{Holding}
 use Rattle.machine_run.specs.Running.{cycleIn}
 use Rattle.buffers_load_files.specs.Loaded.{panelOf, programOf}
-use Rattle.buffers_load.proofs.Loaded.{loaded-tables, loaded-holding, loaded-network, loaded-head}
+use Rattle.buffers_load.proofs.Loaded.{loaded-tables, loaded-holding, loaded-network}
 use Rattle.laws_values.proofs.Same.{cycle-same, near-trans}
 use Rattle.laws_values.proofs.Valued.{processors-few, slots-few}
-use Rattle.session_state.specs.Header.{headBytes, headByte, withHead}
-use Rattle.laws_kept.proofs.Heads.{session-byte, with-head-hand, with-head-column}
-use Rattle.laws_kept.proofs.Holding.{signal-high, with-head-holding}
+use Rattle.buffers_range.proofs.Ranged.{panel-in-range}
+use Rattle.session_state.specs.Carried.{withHand}
+use Rattle.session_state.proofs.Hands.{own-hand, with-hand-hand, with-hand-over, with-hand-same}
+use Rattle.laws_opening.proofs.Opened.{opened-ranged}
+use Rattle.laws_kept.proofs.Tables.{signal-high, same-holding}
+use Rattle.laws_kept.proofs.Heads.{with-hand-tables}
+use Rattle.laws_kept.proofs.Panels.{head-in-range}
 use Rattle.listing_cycle.specs.Changes.{shownLength, notShown, valueHeld, shownWith}
 use Rattle.listing.specs.Buffers.{cyclesAfter, handAt, panelAt, memoryAt, shownAt, shownAfter}
-
--- a head written over another
-module _ (h g : Head) (panel : List ℕ) where
-  byte-over : (s column : ℕ) → s ≤ 4096 → column < 10 → headByte h (withHead g panel) s column ≡ headByte h panel s column
-  unfolding headByte
-  byte-over zero column high l = ap (λ (bytes : List ℕ). getD bytes column 0) first
-    where
-      first : headBytes h (withHead g panel) ≡ headBytes h panel
-      first =
-          cc (
-            session-byte g panel 0 (omega arith),
-            session-byte g panel 1 (omega arith),
-            session-byte g panel 2 (omega arith),
-            session-byte g panel 3 (omega arith),
-            session-byte g panel 4 (omega arith),
-          )
-  byte-over (suc s) column high l = go (eqb column 7) refl
-    where
-      go : (b : Bool) → eqb column 7 ≡ b
-          → (if b then h .hand (suc s) else getD (withHead g panel) (10 * suc s + column) 0) ≡ (if b then h .hand (suc s) else getD panel (10 * suc s + column) 0)
-      go true e = refl
-      go false e = with-head-column g panel (suc s) (omega arith) high column l (eqb-false column 7 e)
-
-  with-head-over : withHead h (withHead g panel) ≡ withHead h panel
-  unfolding withHead
-  with-head-over =
-      is-listed (withHead h (withHead g panel)) panelLength _ (listed-length panelLength _)
-      (λ a l. listed-at panelLength _ a l ∙ byte-over (a / 10) (a % 10) (omega arith) (omega arith))
-
--- heads that write the same bytes
-module _ (h g : Head) (panel : List ℕ) (finished : h .finished ≡ g .finished) (watch : h .watch ≡ g .watch)
-    (hands : (s : ℕ) → 1 ≤ s → s ≤ 4096 → h .hand s ≡ g .hand s) where
-  byte-same : (s column : ℕ) → s ≤ 4096 → headByte h panel s column ≡ headByte g panel s column
-  unfolding headByte
-  byte-same zero column high =
-      let numbers : headBytes h panel ≡ headBytes g panel = cc (finished, ap (λ (w : Watch). w .signal) watch, ap (λ (w : Watch). w .mask) watch) in
-      ap (λ (bytes : List ℕ). getD bytes column 0) numbers
-  byte-same (suc s) column high = rw (hands (suc s) (omega arith) high)
-
-  with-head-same : withHead h panel ≡ withHead g panel
-  unfolding withHead
-  with-head-same =
-      is-listed (withHead h panel) panelLength _ (listed-length panelLength _)
-      (λ a l. listed-at panelLength _ a l ∙ byte-same (a / 10) (a % 10) (omega arith))
 
 module _ (files : Files) where
   abbrev n : Network
@@ -125,10 +84,14 @@ module _ (files : Files) where
   unfolding shownAt
   shown-last = ap (λ (t : ℕ). listed shownLength (λ s. if isSignal n s then valueAt files t s else notShown)) cycles-last
 
-  -- a value in hand of a signal, and of none
-  pub hand-signal : (t s : ℕ) → Signal n s → handAt files t s ≡ held stim t s
+  -- what stands as the value in hand of an input, of a gate, and of none
+  pub hand-input : (t s : ℕ) → Signal n s → n .kind s ≡ input → handAt files t s ≡ held stim t s
   unfolding handAt
-  hand-signal t s g = rw (signal-test n s g)
+  hand-input t s g i = rw (signal-test n s g, eq-eqb (n .kind s) input i)
+
+  pub hand-gate : (t s : ℕ) → Signal n s → (n .kind s ≡ input → ⊥) → handAt files t s ≡ start n (givenOf files) s
+  unfolding handAt
+  hand-gate t s g d = rw (signal-test n s g, ne-eqb (n .kind s) input d)
 
   pub hand-none : (t s : ℕ) → n .size < s → handAt files t s ≡ 0
   unfolding handAt
@@ -138,12 +101,15 @@ module _ (files : Files) where
       go true e = absurd (omega (arith, signal-true n s e .high))
       go false e = rw e
 
-  -- one head more written into the panel
-  pub panel-next : (t : ℕ) (h : Head) → h .finished ≡ t → h .watch ≡ record { signal = 1; mask = 0 }
-      → ((s : ℕ) → 1 ≤ s → s ≤ 4096 → h .hand s ≡ handAt files (suc t) s) → withHead h (panelAt files t) ≡ panelAt files (suc t)
+  pub panel-hand : (t s : ℕ) → 1 ≤ s → s ≤ 4096 → handIn (panelAt files t) s ≡ handAt files t s
   unfolding panelAt
-  panel-next zero h finished watch hands = with-head-same h _ _ finished watch hands
-  panel-next (suc t) h finished watch hands = with-head-over h _ _ ∙ with-head-same h _ _ finished watch hands
+  panel-hand t = with-hand-hand (handAt files t) (panelOf files)
+
+  -- the settings of one time more
+  pub panel-next : (t u : ℕ) (panel : List ℕ) → panel ≡ withHand (handIn panel) (panelAt files t)
+      → ((s : ℕ) → 1 ≤ s → s ≤ 4096 → handIn panel s ≡ handAt files u s) → panel ≡ panelAt files u
+  unfolding panelAt
+  panel-next t u panel only hands = only ∙ with-hand-over (handIn panel) _ _ ∙ with-hand-same (handIn panel) _ _ hands
 
   module _ (accepted : Accepted panelLimit files) where
     abbrev loaded : List ℕ
@@ -161,24 +127,33 @@ module _ (files : Files) where
 
     pub panel-holding : (t : ℕ) → Holding n m (panelAt files t) program
     unfolding panelAt
-    panel-holding zero = loaded-here
-    panel-holding (suc t) = with-head-holding _ loaded program few loaded-here
+    panel-holding t = same-holding (with-hand-tables (handAt files t) loaded) program few loaded-here
 
-    -- and STIM's values in hand
-    pub panel-hand : (t s : ℕ) → Signal n s → handIn (panelAt files t) s ≡ held stim t s
-    unfolding panelAt start
-    panel-hand zero s g =
-        loaded-network panel-few files accepted .hands s g
-    panel-hand (suc t) s g =
-        with-head-hand _ loaded s (g .low) (signal-high loaded program n s few (loaded-here .signals) g) ∙ hand-signal (suc t) s g
+    -- at time 0 it is the one that was loaded
+    pub panel-loaded : loaded ≡ panelAt files 0
+    unfolding panelAt networkIn
+    panel-loaded =
+        own-hand loaded (loaded-tables panel-few files accepted .panel-size) ∙ with-hand-same _ _ loaded (λ s low high. hand s low high (decLt (n .size) s))
+      where
+        size-there : signalsIn loaded ≡ n .size
+        size-there = loaded-here .signals .size
 
-    -- index 0, which is no signal, reads the watch: signal 1
-    pub panel-none : (t : ℕ) → handIn (panelAt files t) 0 ≡ 1
-    unfolding panelAt
-    panel-none zero =
-        let head = loaded-head panel-few files accepted in
-        omega (arith, head .1)
-    panel-none (suc t) = session-byte _ loaded 7 (omega arith)
+        hand : (s : ℕ) → 1 ≤ s → s ≤ 4096 → Dec (n .size < s) → handIn loaded s ≡ handAt files 0 s
+        hand s low high (yes q) =
+            head-in-range loaded (panel-in-range loaded program _ (opened-ranged panel-few files accepted)) .rest s (omega (arith, size-there)) high
+            ∙ sym (hand-none 0 s q)
+        hand s low high (no d) = kind (ℕ-discrete (n .kind s) input)
+          where
+            g : Signal n s
+            g = record { low = low; high = omega arith }
+
+            kind : Dec (n .kind s ≡ input) → handIn loaded s ≡ handAt files 0 s
+            kind (yes i) = loaded-network panel-few files accepted .hands s g ∙ start-input n (givenOf files) s g i ∙ sym (hand-input 0 s g i)
+            kind (no d) = loaded-network panel-few files accepted .hands s g ∙ sym (hand-gate 0 s g d)
+
+    -- the inputs have STIM's values in hand
+    pub panel-input : (t s : ℕ) → Signal n s → n .kind s ≡ input → handIn (panelAt files t) s ≡ held stim t s
+    panel-input t s g i = panel-hand t s (g .low) (signal-high loaded program n s few (loaded-here .signals) g) ∙ hand-input t s g i
 
     -- the places hold VAL
     pub places-hold : (panel program : List ℕ) → Holding n m panel program → (t s : ℕ) → Signal n s → valueHeld panel (memoryAt files t) s ≡ valueAt files t s
@@ -197,7 +172,7 @@ module _ (files : Files) where
         let holding = panel-holding t in
         near-trans
         (cycle-same (networkIn (panelAt files t) program) (holding .lines) laid (holding .signals .kinds) (holding .signals .gates) (handIn (panelAt files t)) near-refl)
-        (cycle-rows laid (handIn (panelAt files t)) (held stim t) (λ s g i. panel-hand t s g) near-refl)
+        (cycle-rows laid (handIn (panelAt files t)) (held stim t) (λ s g i. panel-input t s g i) near-refl)
 
     pub memory-next : (t : ℕ) (memory left : List ℕ) → memory ≡ memoryAt files t
         → left ≡ withMemory (m .processors) (m .slots) (cycleIn (panelAt files (suc t)) program (memoryOf memory)) memory

@@ -1,6 +1,6 @@
 -- A listing stands by the files through every step: what it asks of the functions that make a piece, what the piece is, and how the
 -- listing stands after it.
-use Prim.Native.Nat.{ℕ, zero, suc, _+_, _*_, _<_, _≤_}
+use Prim.Native.Nat.{ℕ, zero, suc, _+_, _<_, _≤_}
 use mathlib.Core.Path.{_≡_, refl, sym, subst, _∙_, ap}
 use mathlib.Core.List.{List, [], _∷_}
 use native.Mathlib.Omega.{arith}
@@ -18,7 +18,7 @@ use Rattle.model.specs.Network.{Network, Signal, input}
 use Rattle.model.specs.Netlist.{network}
 use Rattle.model.specs.Stimulus.{stimLine, stimTime, stimCheck, stimCount, endTime, held}
 use Rattle.model.specs.Acceptance.{panelLimit, networkOf, moduleOfFiles, Accepted}
-use Rattle.model.specs.Session.{Head, Watch}
+use Rattle.model.specs.Session.{Watch}
 use Rattle.model.specs.Listing.{valueAt}
 use Rattle.model.proofs.Accepted.{net-accepted, stim-accepted, net-size, stim-right, times-rise}
 use Rattle.buffers_memory.specs.Memory.{memoryOf, MemoryBytes, withMemory}
@@ -26,27 +26,26 @@ use Rattle.buffers_tables.specs.Panel.{signalsIn, processorsIn, slotsIn, kindIn
 use Rattle.buffers_tables.specs.Tables.{networkIn, moduleIn}
 use Rattle.buffers_tables.specs.Holding.{Holding}
 use Rattle.buffers_range.proofs.Ranged.{head-ranged, panel-in-range, ranged-memory}
-use Rattle.machine_run.specs.Running.{cycleIn}
-use Rattle.session_state.specs.Header.{headOf, withHead}
+use Rattle.machine_run.specs.Running.{watchOf, cycleIn}
+use Rattle.session_state.specs.declared.Session.{Session}
+use Rattle.session_state.specs.Carried.{withHand}
 use Rattle.session_state.specs.Commands.{signalIn, inputIn}
-use Rattle.session_state.proofs.Heads.{same-head, past-end}
 use Rattle.session_calls.proofs.Watched.{ranged-processor}
-use Rattle.laws_kept.proofs.Panels.{head-in-range}
-use Rattle.laws_kept.specs.Sound.{Sound}
-use Rattle.laws_kept.proofs.Holding.{with-head-holding}
+use Rattle.laws_kept.proofs.Tables.{same-holding}
 use Rattle.file_stim.proofs.Passed.{nothing-later, given-by-then}
 use Rattle.file_stim.proofs.Steps.{line-right, time-field}
 use Rattle.listing.specs.declared.Lister.{Lister}
 use Rattle.listing.specs.declared.Piece.{Piece}
 use Rattle.listing_cycle.specs.Changes.{shownLength, valueHeld, changeLines, shownWith}
-use Rattle.listing_cycle.specs.Feeding.{Stimulus, Passed, PanelInputs, InHand, Fed}
-use Rattle.listing_cycle.specs.Cycling.{RightBuffers, Ready, InPanel, cycled}
+use Rattle.listing_cycle.specs.Feeding.{Stimulus, Passed, PanelInputs, InHand, Fed, SameNumbers}
+use Rattle.listing_cycle.specs.Cycling.{RightBuffers, Ready, OneMore}
 use Rattle.listing.specs.Pieces.{pieceAt}
-use Rattle.listing.specs.Buffers.{cyclesAfter, lineAt, handAt, panelAt, panelAfter, memoryAt, shownAt, shownAfter, headAt, headAfter}
-use Rattle.listing.specs.Standing.{Stands, Gives}
+use Rattle.listing.specs.Buffers.{cyclesAfter, lineAt, handAt, panelAt, panelAfter, memoryAt, shownAt, shownAfter}
+use Rattle.listing.specs.Standing.{SessionAfter, Stands, Gives}
 use Rattle.listing.proofs.Lines.{lines-passed, passed-line}
-use Rattle.listing_cycle.proofs.Cycling.{fresh-head, cycle-right}
-use Rattle.listing.proofs.Buffers.{cycles-at, cycles-last, shown-last, hand-signal, hand-none, panel-next, panel-holding, panel-hand, panel-none, places-hold, memory-next, shown-next}
+use Rattle.listing_cycle.proofs.Feeding.{no-input, fed-tables, fed-right}
+use Rattle.listing_cycle.proofs.Cycling.{cycle-right}
+use Rattle.listing.proofs.Buffers.{cycles-at, cycles-last, shown-last, hand-input, hand-gate, hand-none, panel-next, panel-holding, panel-hand, panel-input, places-hold, memory-next, shown-next}
 use Rattle.listing.proofs.Pieces.{piece-is, piece-last, piece-short}
 
 -- T is a number of a right field
@@ -65,24 +64,6 @@ module _ {panel program memory : List ℕ} (right : RightBuffers panel program m
 
   pub right-memory : MemoryBytes memory
   right-memory = ranged-memory panel program memory (right .sizes .memory-size) (right .range)
-
--- a panel that watches nothing and its values in hand are a sound head, whatever the cycles finished
-panel-sound : {panel program memory : List ℕ} → RightBuffers panel program memory → handIn panel 0 ≡ 1 → (t : ℕ)
-    → Sound panel (record { finished = t; hand = handIn panel; watch = record { signal = 1; mask = 0 } })
-panel-sound {panel} {program} {memory} right none t =
-    let r = panel-in-range panel program memory (right .range) in
-    let own = head-in-range panel r in
-    record {
-      range = record {
-        watched-low = omega arith;
-        watched-high = r .head .signals-low;
-        mask-high = omega arith;
-        hands = own .hands;
-        rest = own .rest;
-      };
-      zeroth = none;
-      beyond = λ s l. past-end panel (10 * s + 7) (omega (arith, right .sizes .panel-size));
-    }
 
 -- the changes that write_changes gives are a piece, and it shows what the piece tells
 module _ (files : Files) (accepted : Accepted panelLimit files) (t : ℕ) (more : t ≤ endTime (files .STIM)) (panel program : List ℕ)
@@ -112,6 +93,10 @@ module _ (files : Files) (accepted : Accepted panelLimit files) (t : ℕ) (more 
       ∙ ap (λ (x : List ℕ). shownWith (networkOf files .size) (valueHeld panel memory) (λ s. getD x s 0)) shown-is
       ∙ shown-next files accepted t more (valueHeld panel memory) values-held
 
+-- the session after t cycles
+abbrev SessionAt : ℕ → Session → Type 0
+SessionAt t s = (s .finished .0 ≡ t) × (watchOf (s .watch) ≡ record { signal = 1; mask = 0 })
+
 -- what a listing that stands gives to the functions that it calls
 module _ {files : Files} {k : ℕ} {l : Lister} {stim panel program memory shown : List ℕ} (s : Stands files k l stim panel program memory shown) where
   pub stands-stimulus : Stimulus stim
@@ -137,22 +122,11 @@ module _ {files : Files} {k : ℕ} {l : Lister} {stim panel program memory shown
       (subst (λ (x : List ℕ). Holding (networkOf files) (moduleOfFiles files) (panelAfter files k) x) (sym (s .program-is))
       (panel-holding files (s .accepted) (cyclesAfter files k)))
 
-  -- the session has the panel's values in hand
-  own-session : headOf (l .session) ≡ record { finished = cyclesAfter files k; hand = handIn panel; watch = record { signal = 1; mask = 0 } }
-  own-session =
-      s .session-is
-      ∙ ap (λ (x : List ℕ). record { finished = cyclesAfter files k; hand = handIn x; watch = record { signal = 1; mask = 0 } }) (sym (s .panel-is))
-
-  pub stands-sound : Sound panel (headOf (l .session))
-  stands-sound =
-      subst (Sound panel) (sym own-session)
-      (panel-sound (s .right) (ap (λ (x : List ℕ). handIn x 0) (s .panel-is) ∙ panel-none files (s .accepted) (cyclesAfter files k)) (cyclesAfter files k))
-
   -- A piece is given, and the listing stands after it
   module _ {lent out panel′ memory′ shown′ : List ℕ} {p : Piece} (text : List ℕ) (is : text ≡ pieceAt files k) (size : p .length ≡ length text)
       (bytes : out ≡ sets lent 0 text) (given : p .lister .pieces ≡ l .pieces + 1) (end : p .lister .end .0 ≡ l .end .0)
       (t : ℕ) (cycles : cyclesAfter files (suc k) ≡ t) (line : p .lister .cursor .line ≡ lineAt files t)
-      (session : headOf (p .lister .session) ≡ headAt files t) (panel-left : panel′ ≡ panelAt files t) (memory-left : memory′ ≡ memoryAt files t)
+      (session : SessionAt t (p .lister .session)) (panel-left : panel′ ≡ panelAt files t) (memory-left : memory′ ≡ memoryAt files t)
       (shown-left : shown′ ≡ shownAfter files (suc k)) (right : RightBuffers panel′ program memory′) where
     gives : Gives files k lent p out stim panel′ program memory′ shown′
     gives =
@@ -188,8 +162,8 @@ module _ {files : Files} {k : ℕ} {l : Lister} {stim panel program memory shown
         count : p .lister .pieces ≡ suc k
         count = omega (arith, given, s .given)
 
-        session-left : headOf (p .lister .session) ≡ headAfter files (suc k)
-        session-left = session ∙ ap (headAt files) (sym cycles)
+        session-left : SessionAfter files (suc k) (p .lister .session)
+        session-left = (session .0 ∙ sym cycles, session .1)
 
   -- a piece without a cycle
   gives-still : cyclesAfter files (suc k) ≡ cyclesAfter files k → {lent out shown′ : List ℕ} {p : Piece} (text : List ℕ) → text ≡ pieceAt files k
@@ -199,7 +173,7 @@ module _ {files : Files} {k : ℕ} {l : Lister} {stim panel program memory shown
   gives-still same {p = p} text is size bytes after shown-left =
       gives text is size bytes (ap (λ (x : Lister). x .pieces) after) (ap (λ (x : Lister). x .end .0) after) (cyclesAfter files k) same
       (ap (λ (x : Lister). x .cursor .line) after ∙ s .line-is)
-      (ap (λ (x : Lister). headOf (x .session)) after ∙ s .session-is) (s .panel-is) (s .memory-is) shown-left (s .right)
+      (subst (λ (x : Lister). SessionAt (cyclesAfter files k) (x .session)) (sym after) (s .session-is)) (s .panel-is) (s .memory-is) shown-left (s .right)
 
   -- the last line
   pub gives-last : l .end .0 < l .pieces → (lent out : List ℕ) (p : Piece) → p .length ≡ length (lineText (l .end .0 ∷ 0 ∷ 0 ∷ []))
@@ -229,19 +203,19 @@ gives-first {files} {l} {stim} {panel} {program} {memory} {shown} s lent out sho
     (after ∙ ap (λ (x : ℕ). record { session = l .session; cursor = l .cursor; end = l .end; pieces = x }) (let e : 1 ≡ l .pieces + 1 = omega (arith, s .given) in e))
     (shows ∙ shown-given files (s .accepted) 0 (omega arith) panel program (stands-holding s) memory (s .memory-is) shown (s .shown-is))
 
--- a cycle, t being finished: its settings
+-- a cycle, t being finished: its settings, which leave the panel fed and the session ready
 module _ {files : Files} {t : ℕ} {l : Lister} {stim panel program memory shown : List ℕ}
-    (s : Stands files (suc t) l stim panel program memory shown) (more : suc t ≤ endTime (files .STIM)) {h : Head} {next : ℕ}
-    (fed : Fed stim panel (suc t) (l .cursor .line) (headOf (l .session)) h next)
-    (stops : next < stimCount stim → stimTime stim next ≡ suc t → ⊥) where
+    (s : Stands files (suc t) l stim panel program memory shown) (more : suc t ≤ endTime (files .STIM)) {fed : List ℕ} {next : ℕ}
+    (feeding : Fed stim panel (suc t) (l .cursor .line) fed next) (stops : next < stimCount stim → stimTime stim next ≡ suc t → ⊥)
+    {ready : Session} (same : SameNumbers (l .session) ready) where
   abbrev n : Network
   n = networkOf files
 
   abbrev given-stim : List ℕ
   given-stim = files .STIM
 
-  fed-here : Fed given-stim panel (suc t) (l .cursor .line) (headOf (l .session)) h next
-  fed-here = subst (λ (x : List ℕ). Fed x panel (suc t) (l .cursor .line) (headOf (l .session)) h next) (s .stimulus) fed
+  fed-here : Fed given-stim panel (suc t) (l .cursor .line) fed next
+  fed-here = subst (λ (x : List ℕ). Fed x panel (suc t) (l .cursor .line) fed next) (s .stimulus) feeding
 
   stops-here : next < stimCount given-stim → stimTime given-stim next ≡ suc t → ⊥
   stops-here = subst (λ (x : List ℕ). next < stimCount x → stimTime x next ≡ suc t → ⊥) (s .stimulus) stops
@@ -253,8 +227,8 @@ module _ {files : Files} {t : ℕ} {l : Lister} {stim panel program memory shown
   now : cyclesAfter files (suc t) ≡ t
   now = cycles-at files t (omega arith)
 
-  session-here : headOf (l .session) ≡ headAt files t
-  session-here = s .session-is ∙ ap (headAt files) now
+  session-here : SessionAt t ready
+  session-here = (same .0 ∙ s .session-is .0 ∙ now, same .1 ∙ s .session-is .1)
 
   panel-here : panel ≡ panelAt files t
   panel-here = s .panel-is ∙ ap (panelAt files) now
@@ -262,18 +236,19 @@ module _ {files : Files} {t : ℕ} {l : Lister} {stim panel program memory shown
   passed-here : Passed given-stim t (l .cursor .line)
   passed-here = subst (λ (x : ℕ). Passed given-stim x (l .cursor .line)) now (stands-passed s)
 
-  pub stands-ready : Ready h panel program memory
-  stands-ready =
-      record {
-        right = s .right;
-        sound = fed .sound (right-signals (s .right)) (stands-sound s);
-        mask = ap (λ (w : Watch). w .mask) (fed .watch) ∙ ap (λ (x : Head). x .watch .mask) session-here;
-        left = omega (arith, fed .finished, ap (λ (x : Head). x .finished) session-here, end-small n given-stim accepts);
-      }
+  fed-stands : RightBuffers fed program memory
+  fed-stands = fed-right feeding (s .right)
 
-  -- a session that was not fed has its values in the panel
-  pub stands-unfed : next ≡ l .cursor .line → InPanel panel h
-  stands-unfed e x low high = sym (ap (λ (q : Head). q .hand x) (own-session s)) ∙ sym (fed .unfed e x)
+  pub stands-ready : Ready ready fed program memory
+  stands-ready =
+      let signal : ready .watch .signal ≡ 1 = ap (λ (w : Watch). w .signal) (session-here .1) in
+      record {
+        right = fed-stands;
+        watched-low = omega arith;
+        watched-high = omega (arith, panel-in-range fed program memory (fed-stands .range) .head .signals-low);
+        mask = ap (λ (w : Watch). w .mask) (session-here .1);
+        left = omega (arith, session-here .0, end-small n given-stim accepts);
+      }
 
   passed-next : Passed given-stim (suc t) next
   passed-next =
@@ -298,83 +273,89 @@ module _ {files : Files} {t : ℕ} {l : Lister} {stim panel program memory shown
   unfolding networkIn
   size-here = stands-holding s .signals .size
 
+  kind-here : (x : ℕ) → Signal n x → kindIn panel x ≡ n .kind x
+  unfolding networkIn
+  kind-here x g = stands-holding s .signals .kinds x g
+
   -- the network's inputs are the panel's
   feeds : PanelInputs n given-stim panel
-  unfolding inputIn signalIn networkIn
+  unfolding inputIn signalIn
   feeds =
       record {
         passes = accepts;
         inputs = λ x g i.
             and-true _ _ (and-true _ _ (le-leb 1 x (g .low)) (le-leb x (signalsIn panel) (omega (arith, g .high, size-here))))
-            (eq-eqb (kindIn panel x) input (stands-holding s .signals .kinds x g ∙ i));
+            (eq-eqb (kindIn panel x) input (kind-here x g ∙ i));
       }
 
-  -- the values in hand before the settings and after them, which the lines passed gave last
-  hands-here : InHand n given-stim (suc t) (l .cursor .line) (headOf (l .session))
+  -- the inputs' values in hand before the settings and after them, which the lines passed gave last
+  hands-here : InHand n given-stim (suc t) (l .cursor .line) panel
   unfolding held
-  hands-here x g =
-      ap (λ (q : Head). q .hand x) session-here
-      ∙ panel-hand files (s .accepted) t x g
+  hands-here x g i =
+      ap (λ (q : List ℕ). handIn q x) panel-here
+      ∙ panel-input files (s .accepted) t x g i
       ∙ nothing-later n given-stim accepts t (l .cursor .line) (passed-here .later) x (stimCount given-stim) (passed-here .few) (omega arith)
       ∙ given-by-then given-stim t (suc t) (l .cursor .line) (passed-here .earlier) (omega arith) x
 
-  hands-next : (x : ℕ) → Signal n x → h .hand x ≡ held given-stim (suc t) x
+  hands-next : (x : ℕ) → Signal n x → n .kind x ≡ input → handIn fed x ≡ held given-stim (suc t) x
   unfolding held
-  hands-next x g =
-      fed-here .hands n feeds (omega arith) hands-here x g
+  hands-next x g i =
+      fed-here .hands n feeds (omega arith) hands-here x g i
       ∙ sym (nothing-later n given-stim accepts (suc t) next (passed-next .later) x (stimCount given-stim) (fed-here .few) (omega arith))
 
-  abbrev fresh : List ℕ
-  fresh = withHead h panel
+  -- what is no input keeps what stands there
+  kept : (x : ℕ) → 1 ≤ x → x ≤ 4096 → (1 ≤ x → x ≤ signalsIn panel → kindIn panel x ≡ input → ⊥) → handIn fed x ≡ handAt files t x
+  kept x low high d =
+      feeding .gates x low high (no-input panel x d) ∙ ap (λ (q : List ℕ). handIn q x) panel-here ∙ panel-hand files t x low high
 
   -- so the panel is that of one cycle more
-  fresh-is : fresh ≡ panelAt files (suc t)
-  fresh-is =
-      ap (withHead h) panel-here
-      ∙ panel-next files t h (fed .finished ∙ ap (λ (q : Head). q .finished) session-here) (fed .watch ∙ ap (λ (q : Head). q .watch) session-here)
+  fed-is : fed ≡ panelAt files (suc t)
+  fed-is =
+      panel-next files t (suc t) fed (feeding .only ∙ ap (withHand (handIn fed)) panel-here)
       (λ x low high. hand x low high (decLt (n .size) x))
     where
-      hand : (x : ℕ) → 1 ≤ x → x ≤ 4096 → Dec (n .size < x) → h .hand x ≡ handAt files (suc t) x
-      hand x low high (yes q) = stands-ready .sound .range .rest x (omega (arith, size-here)) high ∙ sym (hand-none files (suc t) x q)
-      hand x low high (no d) =
-          let g : Signal n x = record { low = low; high = omega arith } in
-          hands-next x g ∙ sym (hand-signal files (suc t) x g)
+      hand : (x : ℕ) → 1 ≤ x → x ≤ 4096 → Dec (n .size < x) → handIn fed x ≡ handAt files (suc t) x
+      hand x low high (yes q) = kept x low high (λ a b. absurd (omega (arith, size-here))) ∙ hand-none files t x q ∙ sym (hand-none files (suc t) x q)
+      hand x low high (no d) = kind (ℕ-discrete (n .kind x) input)
+        where
+          g : Signal n x
+          g = record { low = low; high = omega arith }
 
-  fresh-holding : Holding n (moduleOfFiles files) fresh program
-  fresh-holding = with-head-holding h panel program (right-signals (s .right)) (stands-holding s)
+          kind : Dec (n .kind x ≡ input) → handIn fed x ≡ handAt files (suc t) x
+          kind (yes i) = hands-next x g i ∙ sym (hand-input files (suc t) x g i)
+          kind (no e) =
+              kept x low high (λ a b q. e (sym (kind-here x g) ∙ q)) ∙ hand-gate files t x g e ∙ sym (hand-gate files (suc t) x g e)
+
+  fed-holding : Holding n (moduleOfFiles files) fed program
+  fed-holding = same-holding (fed-tables feeding) program (right-signals (s .right)) (stands-holding s)
 
   -- and then the cycle
-  module _ (memory′ : List ℕ) (left : memory′ ≡ withMemory (processorsIn panel) (slotsIn panel) (cycleIn fresh program (memoryOf memory)) memory) where
-    pub cycle-stands : RightBuffers fresh program memory′
-    cycle-stands = cycle-right h panel program memory stands-ready memory′ left
+  module _ (memory′ : List ℕ) (left : memory′ ≡ withMemory (processorsIn fed) (slotsIn fed) (cycleIn fed program (memoryOf memory)) memory) where
+    pub cycle-stands : RightBuffers fed program memory′
+    cycle-stands = cycle-right fed-stands memory′ left
 
     memory-left : memory′ ≡ memoryAt files (suc t)
     unfolding moduleIn
     memory-left =
         memory-next files (s .accepted) t memory memory′ (s .memory-is ∙ ap (memoryAt files) now)
         (left
-        ∙ ap (λ (p : ℕ). withMemory p (slotsIn panel) (cycleIn fresh program (memoryOf memory)) memory) (stands-holding s .lines .processors)
-        ∙ ap (λ (c : ℕ). withMemory (moduleOfFiles files .processors) c (cycleIn fresh program (memoryOf memory)) memory) (stands-holding s .lines .slots)
-        ∙ ap (λ (x : List ℕ). withMemory (moduleOfFiles files .processors) (moduleOfFiles files .slots) (cycleIn x program (memoryOf memory)) memory) fresh-is
+        ∙ ap (λ (p : ℕ). withMemory p (slotsIn fed) (cycleIn fed program (memoryOf memory)) memory) (fed-holding .lines .processors)
+        ∙ ap (λ (c : ℕ). withMemory (moduleOfFiles files .processors) c (cycleIn fed program (memoryOf memory)) memory) (fed-holding .lines .slots)
+        ∙ ap (λ (x : List ℕ). withMemory (moduleOfFiles files .processors) (moduleOfFiles files .slots) (cycleIn x program (memoryOf memory)) memory) fed-is
         ∙ ap (λ (x : List ℕ). withMemory (moduleOfFiles files .processors) (moduleOfFiles files .slots) (cycleIn (panelAt files (suc t)) x (memoryOf memory)) memory) (s .program-is))
 
-    session-left : cycled h ≡ headAt files (suc t)
-    session-left =
-        same-head _ _ _ _ _ _ _ _ (omega (arith, fed .finished, ap (λ (q : Head). q .finished) session-here))
-        (λ x. ap (λ (q : Head). q .hand x) (fresh-head h panel program memory stands-ready) ∙ ap (λ (q : List ℕ). handIn q x) fresh-is)
-        (ap (λ (w : Watch). w .signal) (fed .watch) ∙ ap (λ (q : Head). q .watch .signal) session-here) (stands-ready .mask)
-
     pub gives-cycle : (lent out shown′ : List ℕ) (p : Piece)
-        → p .length ≡ length (changeLines (signalsIn fresh) (suc t) (valueHeld fresh memory′) (λ x. getD shown x 0))
-        → out ≡ sets lent 0 (changeLines (signalsIn fresh) (suc t) (valueHeld fresh memory′) (λ x. getD shown x 0))
-        → shown′ ≡ shownWith (signalsIn fresh) (valueHeld fresh memory′) (λ x. getD shown x 0)
-        → headOf (p .lister .session) ≡ cycled h → p .lister .cursor .line ≡ next → p .lister .end .0 ≡ l .end .0 → p .lister .pieces ≡ l .pieces + 1
-        → Gives files (suc t) lent p out stim fresh program memory′ shown′
-    gives-cycle lent out shown′ p size bytes shows head line end count =
+        → p .length ≡ length (changeLines (signalsIn fed) (suc t) (valueHeld fed memory′) (λ x. getD shown x 0))
+        → out ≡ sets lent 0 (changeLines (signalsIn fed) (suc t) (valueHeld fed memory′) (λ x. getD shown x 0))
+        → shown′ ≡ shownWith (signalsIn fed) (valueHeld fed memory′) (λ x. getD shown x 0)
+        → OneMore ready (p .lister .session) → p .lister .cursor .line ≡ next → p .lister .end .0 ≡ l .end .0 → p .lister .pieces ≡ l .pieces + 1
+        → Gives files (suc t) lent p out stim fed program memory′ shown′
+    gives-cycle lent out shown′ p size bytes shows once line end count =
         gives s _
-        (piece-given files (s .accepted) (suc t) more fresh program fresh-holding memory′ memory-left shown (s .shown-is)) size bytes count end
-        (suc t) (cycles-at files (suc t) more) (line ∙ passed-line n given-stim accepts (suc t) next passed-next) (head ∙ session-left) fresh-is memory-left
-        (shows ∙ shown-given files (s .accepted) (suc t) more fresh program fresh-holding memory′ memory-left shown (s .shown-is))
+        (piece-given files (s .accepted) (suc t) more fed program fed-holding memory′ memory-left shown (s .shown-is)) size bytes count end
+        (suc t) (cycles-at files (suc t) more) (line ∙ passed-line n given-stim accepts (suc t) next passed-next)
+        (omega (arith, once .0, session-here .0), once .1 ∙ session-here .1) fed-is memory-left
+        (shows ∙ shown-given files (s .accepted) (suc t) more fed program fed-holding memory′ memory-left shown (s .shown-is))
         cycle-stands
 
 -- the same by the number of pieces that the listing itself keeps
@@ -397,43 +378,31 @@ pub gives-zeroth : {files : Files} (m : ℕ) {l : Lister} {stim panel program me
 gives-zeroth zero e s = gives-first s
 gives-zeroth (suc m) e s = absurd (omega arith)
 
-module _ {files : Files} where
-  pub later-ready : (m : ℕ) {l : Lister} {stim panel program memory shown : List ℕ} → Stands files m l stim panel program memory shown
-      → (m ≡ 0 → ⊥) → m ≤ l .end .0 → {h : Head} {next : ℕ} → Fed stim panel m (l .cursor .line) (headOf (l .session)) h next
-      → (next < stimCount stim → stimTime stim next ≡ m → ⊥) → Ready h panel program memory
-  later-ready zero s d more fed stops = absurd (d refl)
-  later-ready (suc t) s d more fed stops = stands-ready s (omega (arith, s .end)) fed stops
+-- the memory after a cycle of the tables
+abbrev Cycled : List ℕ → List ℕ → List ℕ → List ℕ → Type 0
+Cycled panel program memory left = left ≡ withMemory (processorsIn panel) (slotsIn panel) (cycleIn panel program (memoryOf memory)) memory
 
-  pub later-unfed : (m : ℕ) {l : Lister} {stim panel program memory shown : List ℕ} → Stands files m l stim panel program memory shown
-      → (m ≡ 0 → ⊥) → m ≤ l .end .0 → {h : Head} {next : ℕ} → Fed stim panel m (l .cursor .line) (headOf (l .session)) h next
-      → (next < stimCount stim → stimTime stim next ≡ m → ⊥) → next ≡ l .cursor .line → InPanel panel h
-  later-unfed zero s d more fed stops = absurd (d refl)
-  later-unfed (suc t) s d more fed stops = stands-unfed s (omega (arith, s .end)) fed stops
+module _ {files : Files} {l : Lister} {stim panel program memory shown fed : List ℕ} {next : ℕ} {ready : Session} where
+  pub later-ready : (m : ℕ) → Stands files m l stim panel program memory shown → (m ≡ 0 → ⊥) → m ≤ l .end .0
+      → Fed stim panel m (l .cursor .line) fed next → (next < stimCount stim → stimTime stim next ≡ m → ⊥) → SameNumbers (l .session) ready
+      → Ready ready fed program memory
+  later-ready zero s d more feeding stops same = absurd (d refl)
+  later-ready (suc t) s d more feeding stops same = stands-ready s (omega (arith, s .end)) feeding stops same
 
-  pub later-right : (m : ℕ) {l : Lister} {stim panel program memory shown : List ℕ} → Stands files m l stim panel program memory shown
-      → (m ≡ 0 → ⊥) → m ≤ l .end .0 → {h : Head} {next : ℕ} → Fed stim panel m (l .cursor .line) (headOf (l .session)) h next
-      → (next < stimCount stim → stimTime stim next ≡ m → ⊥) → (memory′ : List ℕ)
-      → memory′ ≡ withMemory (processorsIn panel) (slotsIn panel) (cycleIn (withHead h panel) program (memoryOf memory)) memory
-      → RightBuffers (withHead h panel) program memory′
-  later-right zero s d more fed stops = absurd (d refl)
-  later-right (suc t) s d more fed stops = cycle-stands s (omega (arith, s .end)) fed stops
+  module _ (memory′ : List ℕ) where
+    pub later-right : (m : ℕ) → Stands files m l stim panel program memory shown → (m ≡ 0 → ⊥) → m ≤ l .end .0
+        → Fed stim panel m (l .cursor .line) fed next → (next < stimCount stim → stimTime stim next ≡ m → ⊥) → SameNumbers (l .session) ready
+        → Cycled fed program memory memory′ → RightBuffers fed program memory′
+    later-right zero s d more feeding stops same = absurd (d refl)
+    later-right (suc t) s d more feeding stops same = cycle-stands s (omega (arith, s .end)) feeding stops same memory′
 
-  pub gives-later : (m : ℕ) {l : Lister} {stim panel program memory shown : List ℕ} → Stands files m l stim panel program memory shown
-      → (m ≡ 0 → ⊥) → m ≤ l .end .0 → {h : Head} {next : ℕ} → Fed stim panel m (l .cursor .line) (headOf (l .session)) h next
-      → (next < stimCount stim → stimTime stim next ≡ m → ⊥) → (panel′ : List ℕ) → panel′ ≡ withHead h panel → (memory′ : List ℕ)
-      → memory′ ≡ withMemory (processorsIn panel) (slotsIn panel) (cycleIn (withHead h panel) program (memoryOf memory)) memory
-      → (lent out shown′ : List ℕ) (p : Piece)
-      → p .length ≡ length (changeLines (signalsIn panel′) m (valueHeld panel′ memory′) (λ x. getD shown x 0))
-      → out ≡ sets lent 0 (changeLines (signalsIn panel′) m (valueHeld panel′ memory′) (λ x. getD shown x 0))
-      → shown′ ≡ shownWith (signalsIn panel′) (valueHeld panel′ memory′) (λ x. getD shown x 0)
-      → headOf (p .lister .session) ≡ cycled h → p .lister .cursor .line ≡ next → p .lister .end .0 ≡ l .end .0 → p .lister .pieces ≡ l .pieces + 1
-      → Gives files m lent p out stim panel′ program memory′ shown′
-  gives-later zero s d more fed stops panel′ e memory′ left lent out shown′ p = absurd (d refl)
-  gives-later (suc t) {l} {stim} {panel} {program} {memory} {shown} s d more {h} {next} fed stops panel′ e memory′ left lent out shown′ p =
-      subst (λ (x : List ℕ).
-      p .length ≡ length (changeLines (signalsIn x) (suc t) (valueHeld x memory′) (λ y. getD shown y 0))
-      → out ≡ sets lent 0 (changeLines (signalsIn x) (suc t) (valueHeld x memory′) (λ y. getD shown y 0))
-      → shown′ ≡ shownWith (signalsIn x) (valueHeld x memory′) (λ y. getD shown y 0)
-      → headOf (p .lister .session) ≡ cycled h → p .lister .cursor .line ≡ next → p .lister .end .0 ≡ l .end .0 → p .lister .pieces ≡ l .pieces + 1
-      → Gives files (suc t) lent p out stim x program memory′ shown′) (sym e)
-      (gives-cycle s (omega (arith, s .end)) fed stops memory′ left lent out shown′ p)
+    pub gives-later : (m : ℕ) → Stands files m l stim panel program memory shown → (m ≡ 0 → ⊥) → m ≤ l .end .0
+        → Fed stim panel m (l .cursor .line) fed next → (next < stimCount stim → stimTime stim next ≡ m → ⊥) → SameNumbers (l .session) ready
+        → Cycled fed program memory memory′ → (lent out shown′ : List ℕ) (p : Piece)
+        → p .length ≡ length (changeLines (signalsIn fed) m (valueHeld fed memory′) (λ x. getD shown x 0))
+        → out ≡ sets lent 0 (changeLines (signalsIn fed) m (valueHeld fed memory′) (λ x. getD shown x 0))
+        → shown′ ≡ shownWith (signalsIn fed) (valueHeld fed memory′) (λ x. getD shown x 0)
+        → OneMore ready (p .lister .session) → p .lister .cursor .line ≡ next → p .lister .end .0 ≡ l .end .0 → p .lister .pieces ≡ l .pieces + 1
+        → Gives files m lent p out stim fed program memory′ shown′
+    gives-later zero s d more feeding stops same = absurd (d refl)
+    gives-later (suc t) s d more feeding stops same = gives-cycle s (omega (arith, s .end)) feeding stops same memory′

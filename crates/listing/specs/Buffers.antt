@@ -1,23 +1,21 @@
--- Every byte of the working buffers, and the session, after the first k pieces of the listing of accepted files: functions of the files
+-- Every byte of the working buffers after the first k pieces of the listing of accepted files: functions of the files
 -- and of k alone. The program's table stays as it was loaded (`programOf`).
 use Prim.Native.Nat.{ℕ, zero, suc}
 use mathlib.Core.List.{List}
-use lib.Dec.{leb, ltb}
+use lib.Dec.{eqb, leb, ltb}
 use Rattle.logic.specs.Choice.{if_then_else_}
 use Rattle.logic.specs.Listed.{listed}
 use Rattle.model.specs.Files.{Files}
-use Rattle.model.specs.Network.{isSignal}
+use Rattle.model.specs.Network.{isSignal, input}
 use Rattle.model.specs.Value.{start, history}
 use Rattle.model.specs.Machine.{opening, after}
 use Rattle.model.specs.ModuleFile.{modProcessors, modSlots}
 use Rattle.model.specs.Stimulus.{stimTime, stimCount, held, endTime}
 use Rattle.model.specs.Acceptance.{networkOf, moduleOfFiles, givenOf}
-use Rattle.model.specs.Session.{Head}
 use Rattle.model.specs.Listing.{valueAt}
 use Rattle.buffers_memory.specs.Memory.{memoryLength, withMemory}
-use Rattle.buffers_tables.specs.Panel.{handIn}
 use Rattle.buffers_load_files.specs.Loaded.{panelOf}
-use Rattle.session_state.specs.Header.{withHead}
+use Rattle.session_state.specs.Carried.{withHand}
 use Rattle.listing_cycle.specs.Changes.{shownLength, notShown}
 
 -- the cycles finished: piece 0 is time 0, and after T cycles the last line asks for none
@@ -37,16 +35,17 @@ lineAt files t = linesTo (files .STIM) t (stimCount (files .STIM))
 abbrev pub lineAfter : Files → ℕ → ℕ
 lineAfter files k = lineAt files (cyclesAfter files k)
 
--- the value in hand of signal s for cycle t, and 0 for what is no signal
+-- What stands in the panel as the value in hand of signal s for cycle t: an input's value held; a gate's time 0 value, which nothing
+-- reads; and 0 for what is no signal.
 unfoldable pub handAt : Files → ℕ → ℕ → ℕ
-handAt files t s = if isSignal (networkOf files) s then held (files .STIM) t s else 0
+handAt files t s =
+    let n = networkOf files in
+    if isSignal n s then (if eqb (n .kind s) input then held (files .STIM) t s else start n (givenOf files) s) else 0
 
--- The panel after t cycles. The session is written into it before each cycle: it has the values in hand of the last cycle, and as
--- finished the cycles before that one.
+-- The panel after t cycles: as it was loaded, but for the values in hand. The listing carries the session by value, and does not write
+-- it back.
 unfoldable pub panelAt : Files → ℕ → List ℕ
-panelAt files zero = panelOf files
-panelAt files (suc t) =
-    withHead (record { finished = t; hand = handAt files (suc t); watch = record { signal = 1; mask = 0 } }) (panelOf files)
+panelAt files t = withHand (handAt files t) (panelOf files)
 
 abbrev pub panelAfter : Files → ℕ → List ℕ
 panelAfter files k = panelAt files (cyclesAfter files k)
@@ -70,10 +69,3 @@ shownAt files (suc t) s = if isSignal (networkOf files) s then valueAt files (cy
 
 abbrev pub shownAfter : Files → ℕ → List ℕ
 shownAfter files k = listed shownLength (shownAt files k)
-
--- the session after t cycles: the values in hand as the panel has them, "watch signal 1, mask 0"
-abbrev pub headAt : Files → ℕ → Head
-headAt files t = record { finished = t; hand = handIn (panelAt files t); watch = record { signal = 1; mask = 0 } }
-
-abbrev pub headAfter : Files → ℕ → Head
-headAfter files k = headAt files (cyclesAfter files k)

@@ -113,8 +113,7 @@ impl Lister {
         let settled = listing_cycle::take_settings(session, cursor, time, stim, panel);
         let ready = settled.session;
         let rest = settled.cursor;
-        let fed = rest.line != cursor.line;
-        let after = listing_cycle::run_one(ready, fed, panel, program, memory);
+        let after = listing_cycle::run_one(ready, panel, program, memory);
         let length = listing_cycle::write_changes(time, panel, memory, shown, out);
         Piece {
             lister: Lister {

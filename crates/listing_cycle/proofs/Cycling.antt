@@ -1,105 +1,93 @@
 -- A run of one cycle that nothing stops, on buffers in range.
 use Prim.Native.Nat.{ℕ, _+_, _^_, _≤_}
 use mathlib.Core.Path.{_≡_, sym, subst, _∙_, ap}
-use mathlib.Core.Bool.{true, false}
+use mathlib.Core.Bool.{false}
 use mathlib.Core.List.{List}
 use native.Mathlib.Omega.{arith}
 use native.Mathlib.Nat.{zero-div}
 use Rattle.model.specs.Machine.{Memory}
-use Rattle.model.specs.Session.{Head, run, ran, Run, Outcome, watched, runs, unlessStopped, ticks}
+use Rattle.model.specs.Session.{Watch, run, ran, Run, Outcome, watched, runs, unlessStopped, ticks}
 use Rattle.model.specs.Network.{Signal}
 use Rattle.model.proofs.Machine.{Small}
 use Rattle.buffers_memory.specs.Memory.{memoryOf, withMemory, MemoryBytes}
 use Rattle.buffers_memory.proofs.Written.{written-length}
-use Rattle.buffers_tables.specs.Panel.{processorsIn, slotsIn, maskIn, handIn}
+use Rattle.buffers_tables.specs.Panel.{processorsIn, slotsIn, handIn}
 use Rattle.buffers_tables.specs.Tables.{networkIn, moduleIn, Tables}
-use Rattle.buffers_range.specs.Ranges.{ranged}
 use Rattle.buffers_range.proofs.Ranged.{Values, is-ranged, panel-in-range, program-in-range, memory-in-range, ranged-tables, ranged-memory}
-use Rattle.machine_run.specs.Running.{cycleIn, runIn, Watching}
+use Rattle.machine_run.specs.Running.{watchOf, cycleIn, runIn, Watching}
+use Rattle.session_state.specs.declared.Session.{Session}
 use Rattle.session_state.specs.declared.Told.{Told}
-use Rattle.session_state.specs.Header.{headIn, headOf, withHead}
+use Rattle.session_state.specs.Carried.{headOf}
 use Rattle.session_state.specs.Commands.{commanded, Tells}
 use Rattle.session_state.proofs.Running.{run-done}
-use Rattle.session_calls.proofs.Watched.{ranged-watching}
-use Rattle.laws_kept.proofs.Heads.{with-head-length, with-head-processors, with-head-slots, with-head-mask}
 use Rattle.laws_kept.proofs.Memories.{small-in, ticks-small, with-memory-values}
-use Rattle.laws_kept.proofs.Sound.{head-again, with-head-ranged}
-use Rattle.listing_cycle.specs.Cycling.{RightBuffers, Ready, cycled}
+use Rattle.listing_cycle.specs.Cycling.{RightBuffers, Ready, OneMore}
 
 -- mask 0 has no bit
 watches-none : (mask v : ℕ) → mask ≡ 0 → watched mask v ≡ false
 unfolding watched
 watches-none mask v e = rw (e, zero-div (2 ^ v))
 
-one-cycle : (panel program : List ℕ) (w : Memory) → maskIn panel ≡ 0
-    → runIn panel program 1 w ≡ record { count = 1; stopped = false; state = cycleIn panel program w }
+one-cycle : (panel program : List ℕ) (watch : Watch) (w : Memory) → watch .mask ≡ 0
+    → runIn panel program watch 1 w ≡ record { count = 1; stopped = false; state = cycleIn panel program w }
 unfolding runIn runs unlessStopped
-one-cycle panel program w e = rw (watches-none (maskIn panel) _ e, unlessStopped)
+one-cycle panel program watch w e = rw (watches-none (watch .mask) _ e, unlessStopped)
 
-module _ (h : Head) (panel program memory : List ℕ) (ready : Ready h panel program memory) where
-  abbrev fresh : List ℕ
-  fresh = withHead h panel
+module _ {panel program memory : List ℕ} (right : RightBuffers panel program memory) where
+  pub right-tables : Tables panel program
+  right-tables = ranged-tables panel program memory (right .sizes .panel-size) (right .sizes .program-size) (right .range)
 
-  in-range : ranged fresh program memory ≡ true
-  in-range = with-head-ranged h panel (ready .sound .range) program memory (ready .right .range)
+  pub right-memory : MemoryBytes memory
+  right-memory = ranged-memory panel program memory (right .sizes .memory-size) (right .range)
 
-  pub fresh-tables : Tables fresh program
-  fresh-tables = ranged-tables fresh program memory (with-head-length h panel) (ready .right .sizes .program-size) in-range
+  codes : (s : ℕ) → Signal (networkIn panel program) s → handIn panel s ≤ 3
+  unfolding networkIn
+  codes s g = panel-in-range panel program memory (right .range) .signals s (g .low) (g .high) .hand-high
 
-  pub fresh-watching : Watching fresh
-  fresh-watching = ranged-watching fresh program memory in-range
+  small : Small (moduleIn panel program) (cycleIn panel program (memoryOf memory))
+  unfolding ticks
+  small = ticks-small panel program (right-tables .laid) (handIn panel) codes 1 (memoryOf memory) (small-in panel program memory (right .range))
 
-  pub fresh-memory : MemoryBytes memory
-  fresh-memory = ranged-memory panel program memory (ready .right .sizes .memory-size) (ready .right .range)
+  -- the buffers after a cycle are right
+  pub cycle-right : (left : List ℕ) → left ≡ withMemory (processorsIn panel) (slotsIn panel) (cycleIn panel program (memoryOf memory)) memory
+      → RightBuffers panel program left
+  cycle-right left e =
+      record {
+        sizes = record { panel-size = right .sizes .panel-size; program-size = right .sizes .program-size; memory-size = rw e (written-length _ _ memory) };
+        range = is-ranged panel program left (panel-in-range panel program memory (right .range)) (program-in-range panel program memory (right .range))
+            (subst (λ (l : List ℕ). Values panel l) (sym e)
+            (with-memory-values panel program memory (cycleIn panel program (memoryOf memory)) small (memory-in-range panel program memory (right .range))));
+      }
 
-  pub fresh-head : h ≡ headIn fresh
-  fresh-head = head-again h panel (ready .sound)
+module _ (session : Session) (panel program memory : List ℕ) (ready : Ready session panel program memory) where
+  pub ready-watching : Watching panel (watchOf (session .watch))
+  ready-watching =
+      let r = panel-in-range panel program memory (ready .right .range) in
+      let signal = r .signals (session .watch .signal) (ready .watched-low) (ready .watched-high) in
+      record {
+        signal-high = omega (arith, ready .watched-high, r .head .signals-high);
+        processor-low = signal .processor-low;
+        slot-low = signal .slot-low;
+        mask-high = omega (arith, ready .mask);
+      }
 
   -- the run is never refused, and does its cycle
-  pub cycle-done : commanded fresh program memory h (run 1)
-      ≡ record { answer = ran 1 false; head = cycled h; state = cycleIn fresh program (memoryOf memory) }
-  cycle-done =
-      run-done fresh program memory h 1 fresh-head (omega (arith, ready .left))
-      ∙ ap (λ (r : Run Memory). record { answer = ran (r .count) (r .stopped); head = record { finished = h .finished + r .count; hand = h .hand; watch = h .watch }; state = r .state })
-      (one-cycle fresh program (memoryOf memory) (with-head-mask h panel ∙ ready .mask))
-
-  -- what the command leaves, the panel being as the session was written into it
-  pub cycle-left : (panel′ memory′ : List ℕ) (told : Told) → panel′ ≡ fresh → Tells (commanded panel′ program memory h (run 1)) told
-      → memory′ ≡ withMemory (processorsIn panel′) (slotsIn panel′) (commanded panel′ program memory h (run 1) .state) memory
-      → (headOf (told .session) ≡ cycled h)
-      × (memory′ ≡ withMemory (processorsIn panel) (slotsIn panel) (cycleIn fresh program (memoryOf memory)) memory)
-  cycle-left panel′ memory′ told e tells left = (
-    tells .head ∙ ap (λ (o : Outcome Memory). o .head) done,
-    left ∙ ap (λ (o : Outcome Memory). withMemory (processorsIn panel′) (slotsIn panel′) (o .state) memory) done
-        ∙ ap (λ (l : List ℕ). withMemory (processorsIn l) (slotsIn l) (cycleIn fresh program (memoryOf memory)) memory) e
-        ∙ ap (λ (p : ℕ). withMemory p (slotsIn fresh) (cycleIn fresh program (memoryOf memory)) memory) (with-head-processors h panel)
-        ∙ ap (λ (k : ℕ). withMemory (processorsIn panel) k (cycleIn fresh program (memoryOf memory)) memory) (with-head-slots h panel),
-  )
-    where
-      done : commanded panel′ program memory h (run 1) ≡ record { answer = ran 1 false; head = cycled h; state = cycleIn fresh program (memoryOf memory) }
-      done = ap (λ (l : List ℕ). commanded l program memory h (run 1)) e ∙ cycle-done
-
-  codes : (s : ℕ) → Signal (networkIn fresh program) s → handIn fresh s ≤ 3
-  unfolding networkIn
-  codes s g = panel-in-range fresh program memory in-range .signals s (g .low) (g .high) .hand-high
-
-  small : Small (moduleIn fresh program) (cycleIn fresh program (memoryOf memory))
-  unfolding ticks
-  small = ticks-small fresh program (fresh-tables .laid) (handIn fresh) codes 1 (memoryOf memory) (small-in fresh program memory in-range)
-
-  -- the buffers after it are right, and so is the session's head over them
-  pub cycle-right : (memory′ : List ℕ) → memory′ ≡ withMemory (processorsIn panel) (slotsIn panel) (cycleIn fresh program (memoryOf memory)) memory
-      → RightBuffers fresh program memory′
-  cycle-right memory′ e =
-      record {
-        sizes = record { panel-size = with-head-length h panel; program-size = ready .right .sizes .program-size; memory-size = rw e (written-length _ _ memory) };
-        range = is-ranged fresh program memory′ (panel-in-range fresh program memory in-range) (program-in-range fresh program memory in-range) values;
+  pub cycle-done : commanded panel program memory (headOf session panel) (run 1)
+      ≡ record {
+        answer = ran 1 false;
+        head = record { finished = session .finished .0 + 1; hand = handIn panel; watch = watchOf (session .watch) };
+        state = cycleIn panel program (memoryOf memory);
       }
-    where
-      values : Values fresh memory′
-      values =
-          subst (λ (l : List ℕ). Values fresh l)
-          (sym (e ∙ sym (
-          ap (λ (p : ℕ). withMemory p (slotsIn fresh) (cycleIn fresh program (memoryOf memory)) memory) (with-head-processors h panel)
-          ∙ ap (λ (k : ℕ). withMemory (processorsIn panel) k (cycleIn fresh program (memoryOf memory)) memory) (with-head-slots h panel))))
-          (with-memory-values fresh program memory (cycleIn fresh program (memoryOf memory)) small (memory-in-range fresh program memory in-range))
+  cycle-done =
+      run-done panel program memory (session .finished .0) (watchOf (session .watch)) 1 (omega (arith, ready .left))
+      ∙ ap (λ (r : Run Memory). record { answer = ran (r .count) (r .stopped); head = record { finished = session .finished .0 + r .count; hand = handIn panel; watch = watchOf (session .watch) }; state = r .state })
+      (one-cycle panel program (watchOf (session .watch)) (memoryOf memory) (ready .mask))
+
+  -- what the command leaves
+  pub cycle-left : (left : List ℕ) (told : Told) → Tells (commanded panel program memory (headOf session panel) (run 1)) told panel panel
+      → left ≡ withMemory (processorsIn panel) (slotsIn panel) (commanded panel program memory (headOf session panel) (run 1) .state) memory
+      → OneMore session (told .session) × (left ≡ withMemory (processorsIn panel) (slotsIn panel) (cycleIn panel program (memoryOf memory)) memory)
+  cycle-left left told tells e = (
+    (tells .finished ∙ ap (λ (o : Outcome Memory). o .head .finished) cycle-done, tells .watch ∙ ap (λ (o : Outcome Memory). o .head .watch) cycle-done),
+    e ∙ ap (λ (o : Outcome Memory). withMemory (processorsIn panel) (slotsIn panel) (o .state) memory) cycle-done,
+  )

@@ -1,14 +1,14 @@
--- What a cycle asks for, and the head after it.
+-- What a cycle asks for, and the session after it.
 use Prim.Native.Nat.{ℕ, _+_, _≤_, _<_}
 use mathlib.Core.Path.{_≡_}
 use mathlib.Core.Bool.{true}
 use mathlib.Core.List.{List}
 use lib.ListN.{length}
-use Rattle.model.specs.Session.{Head}
-use Rattle.buffers_tables.specs.Panel.{handIn}
+use Rattle.buffers_tables.specs.Panel.{signalsIn}
 use Rattle.buffers_range.specs.Ranges.{ranged}
 use Rattle.buffers_lengths.specs.Lengths.{Sizes}
-use Rattle.laws_kept.specs.Sound.{Sound}
+use Rattle.machine_run.specs.Running.{watchOf}
+use Rattle.session_state.specs.declared.Session.{Session}
 
 -- working buffers of their lengths and in range
 pub record RightBuffers (panel program memory : List ℕ) : Type 0 where
@@ -16,16 +16,13 @@ pub record RightBuffers (panel program memory : List ℕ) : Type 0 where
   pub range : ranged panel program memory ≡ true
 
 -- and a session over them that watches nothing and has a cycle left
-pub record Ready (h : Head) (panel program memory : List ℕ) : Type 0 where
+pub record Ready (s : Session) (panel program memory : List ℕ) : Type 0 where
   pub right : RightBuffers panel program memory
-  pub sound : Sound panel h
-  pub mask : h .watch .mask ≡ 0
-  pub left : h .finished < 65535
+  pub watched-low : 1 ≤ s .watch .signal
+  pub watched-high : s .watch .signal ≤ signalsIn panel
+  pub mask : s .watch .mask ≡ 0
+  pub left : s .finished .0 < 65535
 
--- the panel has a head's values in hand
-abbrev pub InPanel : List ℕ → Head → Type 0
-InPanel panel h = (s : ℕ) → 1 ≤ s → s ≤ 4096 → handIn panel s ≡ h .hand s
-
--- one cycle more is finished
-abbrev pub cycled : Head → Head
-cycled h = record { finished = h .finished + 1; hand = h .hand; watch = h .watch }
+-- one cycle more is finished, and the watch is the same
+abbrev pub OneMore : Session → Session → Type 0
+OneMore before after = (after .finished .0 ≡ before .finished .0 + 1) × (watchOf (after .watch) ≡ watchOf (before .watch))

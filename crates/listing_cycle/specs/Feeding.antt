@@ -2,15 +2,16 @@
 -- which sets inputs and runs from them").
 use Prim.Native.Nat.{ℕ, _<_, _≤_}
 use mathlib.Core.Path.{_≡_}
-use mathlib.Core.Bool.{true}
+use mathlib.Core.Bool.{true, false}
 use mathlib.Core.List.{List}
 use Rattle.model.specs.Refusal.{pass}
 use Rattle.model.specs.Network.{Network, Signal, input}
 use Rattle.model.specs.Stimulus.{stimTime, stimCheck, stimCount, lastGiven}
-use Rattle.model.specs.Session.{Head}
-use Rattle.buffers_tables.specs.Panel.{signalsIn}
+use Rattle.buffers_tables.specs.Panel.{handIn}
+use Rattle.machine_run.specs.Running.{watchOf}
+use Rattle.session_state.specs.declared.Session.{Session}
+use Rattle.session_state.specs.Carried.{withHand}
 use Rattle.session_state.specs.Commands.{inputIn}
-use Rattle.laws_kept.specs.Sound.{Sound}
 
 -- a STIM that some network accepts
 pub record Stimulus (stim : List ℕ) : Type 0 where
@@ -28,17 +29,21 @@ pub record PanelInputs (n : Network) (stim panel : List ℕ) : Type 0 where
   pub passes : stimCheck n stim ≡ pass
   pub inputs : (s : ℕ) → Signal n s → n .kind s ≡ input → inputIn panel s ≡ true
 
--- every signal has in hand what the first lines give it up to a time: a gate keeps its time 0 value there
-abbrev pub InHand : Network → List ℕ → ℕ → ℕ → Head → Type 0
-InHand n stim t line h = (s : ℕ) → Signal n s → h .hand s ≡ lastGiven stim t s line
+-- every input has in hand what the first lines give it up to a time
+abbrev pub InHand : Network → List ℕ → ℕ → ℕ → List ℕ → Type 0
+InHand n stim t line panel = (s : ℕ) → Signal n s → n .kind s ≡ input → handIn panel s ≡ lastGiven stim t s line
 
--- a head with the settings of a time from a line on, and the line after them
-pub record Fed (stim panel : List ℕ) (t line : ℕ) (before after : Head) (next : ℕ) : Type 0 where
+-- A panel with the settings of a time from a line on, and the line after them.
+-- only: no byte changes but values in hand. gates: what is no input keeps what stands there. codes: codes stay codes.
+pub record Fed (stim before : List ℕ) (t line : ℕ) (after : List ℕ) (next : ℕ) : Type 0 where
   pub low : line ≤ next
   pub few : next ≤ stimCount stim
   pub times : (k : ℕ) → line ≤ k → k < next → stimTime stim k ≡ t
-  pub finished : after .finished ≡ before .finished
-  pub watch : after .watch ≡ before .watch
-  pub unfed : next ≡ line → (s : ℕ) → after .hand s ≡ before .hand s
-  pub sound : signalsIn panel ≤ 4096 → Sound panel before → Sound panel after
-  pub hands : (n : Network) → PanelInputs n stim panel → 1 ≤ t → InHand n stim t line before → InHand n stim t next after
+  pub only : after ≡ withHand (handIn after) before
+  pub gates : (s : ℕ) → 1 ≤ s → s ≤ 4096 → inputIn before s ≡ false → handIn after s ≡ handIn before s
+  pub codes : (s : ℕ) → 1 ≤ s → s ≤ 4096 → handIn before s ≤ 3 → handIn after s ≤ 3
+  pub hands : (n : Network) → PanelInputs n stim before → 1 ≤ t → InHand n stim t line before → InHand n stim t next after
+
+-- a session with the same cycles finished and the same watch
+abbrev pub SameNumbers : Session → Session → Type 0
+SameNumbers before after = (after .finished .0 ≡ before .finished .0) × (watchOf (after .watch) ≡ watchOf (before .watch))

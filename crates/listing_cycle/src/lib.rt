@@ -1,7 +1,6 @@
 // What the listing does for a time (01, Listing): it takes the settings of STIM, runs one cycle, and writes the lines of the changes.
 
 ghost use mathlib.Core.Path.{_≡_};
-ghost use mathlib.Core.Bool.{false};
 ghost use Prim.Native.Nat.{ℕ, _+_, _≤_, _<_};
 ghost use lib.ListN.{length, getD, set};
 ghost use lib.Seq.{sets};
@@ -9,10 +8,9 @@ ghost use Rattle.model.specs.Stimulus.{stimTime, stimCount, endTime};
 ghost use Rattle.buffers_memory.specs.Memory.{memoryOf, withMemory, MemoryBytes};
 ghost use Rattle.buffers_tables.specs.Panel.{panelLength, signalsIn, processorsIn, slotsIn, processorIn};
 ghost use Rattle.machine_run.specs.Running.{cycleIn};
-ghost use Rattle.session_state.specs.Header.{headOf, withHead};
 ghost use Rattle.listing_cycle.specs.Changes.{pieceLength, shownLength, valueHeld, changeLine, changeLines, shownWith};
-ghost use Rattle.listing_cycle.specs.Feeding.{Stimulus, Passed, Fed};
-ghost use Rattle.listing_cycle.specs.Cycling.{Ready, InPanel, cycled};
+ghost use Rattle.listing_cycle.specs.Feeding.{Stimulus, Passed, Fed, SameNumbers};
+ghost use Rattle.listing_cycle.specs.Cycling.{Ready, OneMore};
 use clock::Cycle;
 use file_stim::Cursor;
 use file_stim::Step;
@@ -105,19 +103,20 @@ pub fn end_time(stim: &[u8], lines: u16) -> Cycle
     }
 }
 
-// The settings of a time, each an accepted command of the session.
+// The settings of a time, each an accepted command of the session, which writes its value into the panel.
 pub fn take_settings(
     session: Session,
     cursor: Cursor,
     time: u16,
     stim: &[u8],
-    panel: &[u8],
+    panel: &mut [u8],
 ) -> Settled
     requires { ⌜ Stimulus (now stim) ⌝ }
     requires { ⌜ cursor .line ≤ stimCount (now stim) ⌝ }
     requires { ⌜ (length (now panel) ≡ panelLength) × (signalsIn (now panel) ≤ 4096) ⌝ }
-    ensures { λ r. ⌜ Fed (now (stim .entry)) (now (panel .entry)) time (cursor .line) (headOf session) (headOf (r .session)) (r .cursor .line) ⌝ }
+    ensures { λ r. ⌜ Fed (now (stim .entry)) (now (panel .entry)) time (cursor .line) (now (panel .exit)) (r .cursor .line) ⌝ }
     ensures { λ r. ⌜ (r .cursor .line < stimCount (now (stim .entry)) → stimTime (now (stim .entry)) (r .cursor .line) ≡ time → ⊥) ⌝ }
+    ensures { λ r. ⌜ SameNumbers session (r .session) ⌝ }
 {
     let mut session = session;
     let mut cursor = cursor;
@@ -134,34 +133,12 @@ pub fn take_settings(
     }
 }
 
-// The session written into the panel: its values in hand only where there are new ones.
-fn write_back(session: Session, fed: bool, panel: &mut [u8])
-    requires { ⌜ length (now panel) ≡ panelLength ⌝ }
-    requires { ⌜ (fed ≡ false → InPanel (now panel) (headOf session)) ⌝ }
-    ensures { λ _. ⌜ now (panel .exit) ≡ withHead (headOf session) (now (panel .entry)) ⌝ }
-{
-    if fed {
-        session.encode(panel);
-        return;
-    }
-    session.encode_numbers(panel);
-}
-
 // One cycle with the values in hand: "run k cycles" with k = 1 and a mask that watches nothing.
-pub fn run_one(
-    session: Session,
-    fed: bool,
-    panel: &mut [u8],
-    program: &[u8],
-    memory: &mut [u8],
-) -> Session
-    requires { ⌜ Ready (headOf session) (now panel) (now program) (now memory) ⌝ }
-    requires { ⌜ (fed ≡ false → InPanel (now panel) (headOf session)) ⌝ }
-    ensures { λ r. ⌜ headOf r ≡ cycled (headOf session) ⌝ }
-    ensures { λ _. ⌜ now (panel .exit) ≡ withHead (headOf session) (now (panel .entry)) ⌝ }
-    ensures { λ _. ⌜ now (memory .exit) ≡ withMemory (processorsIn (now (panel .entry))) (slotsIn (now (panel .entry))) (cycleIn (withHead (headOf session) (now (panel .entry))) (now (program .entry)) (memoryOf (now (memory .entry)))) (now (memory .entry)) ⌝ }
+pub fn run_one(session: Session, panel: &[u8], program: &[u8], memory: &mut [u8]) -> Session
+    requires { ⌜ Ready session (now panel) (now program) (now memory) ⌝ }
+    ensures { λ r. ⌜ OneMore session r ⌝ }
+    ensures { λ _. ⌜ now (memory .exit) ≡ withMemory (processorsIn (now (panel .entry))) (slotsIn (now (panel .entry))) (cycleIn (now (panel .entry)) (now (program .entry)) (memoryOf (now (memory .entry)))) (now (memory .entry)) ⌝ }
 {
-    write_back(session, fed, panel);
     let told = session.run(panel, program, memory, 1);
     told.session
 }

@@ -84,15 +84,14 @@ module _ (n : Network) (m : Module) (laid : Laid n m) (few : m .processors ≤ 1
       ∙ ap (λ (w : Memory). withMemory (m .processors) (m .slots) w old) (sym (ticks-more (cycle n m row) j (memoryOf old)))
       ∙ ap (λ (x : ℕ). withMemory (m .processors) (m .slots) (after x) old) (sym q)
 
-  -- the test of a value that is read at the place of signal s, which is x
-  pub stop-told : (mask : ℕ) (processor location : ℕ → ℕ) (s : ℕ) → At m (processor s) (location s) → (j : ℕ) (b : Bool) (l : List ℕ) (x v : ℕ)
-      → x ≡ s → l ≡ withMemory (m .processors) (m .slots) (after j) old → v ≡ memoryOf l .earlierLocal (processor x) (location x)
+  -- the test of a value that is read at the place of signal s
+  pub stop-told : (mask : ℕ) (processor location : ℕ → ℕ) (s : ℕ) → At m (processor s) (location s) → (j : ℕ) (b : Bool) (l : List ℕ) (v : ℕ)
+      → l ≡ withMemory (m .processors) (m .slots) (after j) old → v ≡ memoryOf l .earlierLocal (processor s) (location s)
       → b ≡ watched mask v → watched mask (after j .earlierLocal (processor s) (location s)) ≡ b
-  stop-told mask processor location s a j b l x v is e q t =
+  stop-told mask processor location s a j b l v e q t =
       ap (watched mask)
       (sym
-      (q ∙ ap (λ (y : ℕ). memoryOf l .earlierLocal (processor y) (location y)) is
-      ∙ ap (λ (y : List ℕ). memoryOf y .earlierLocal (processor s) (location s)) e
+      (q ∙ ap (λ (y : List ℕ). memoryOf y .earlierLocal (processor s) (location s)) e
       ∙ with-memory-near m few short (after j) old .earlierLocal (processor s) (location s) a))
       ∙ sym t
 

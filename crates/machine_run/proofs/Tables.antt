@@ -5,11 +5,11 @@ use mathlib.Core.Bool.{Bool, true, false}
 use mathlib.Core.List.{List}
 use lib.ListN.{length}
 use Rattle.model.specs.Machine.{Memory}
-use Rattle.model.specs.Session.{ticks, watched}
+use Rattle.model.specs.Session.{Watch, ticks, watched}
 use Rattle.buffers_memory.specs.Memory.{memoryLength, memoryOf, withMemory}
-use Rattle.buffers_tables.specs.Panel.{processorsIn, slotsIn, watchedIn, maskIn, handIn, processorIn, slotIn}
+use Rattle.buffers_tables.specs.Panel.{processorsIn, slotsIn, handIn, processorIn, slotIn}
 use Rattle.buffers_tables.specs.Tables.{Tables, networkIn, moduleIn}
-use Rattle.machine_run.specs.Running.{cycleIn, watchedValue, runIn, Watching}
+use Rattle.machine_run.specs.Running.{cycleIn, valueIn, runIn, Watching}
 use Rattle.machine_run.proofs.Cycles.{QuietTo, cycles-none, cycles-more, stop-told, quiet-more, ran-stopped, ran-whole}
 
 module _ {panel program : List ℕ} (t : Tables panel program) (old : List ℕ) where
@@ -21,12 +21,6 @@ module _ {panel program : List ℕ} (t : Tables panel program) (old : List ℕ) 
   abbrev bytes : Memory → List ℕ → List ℕ
   bytes w l = withMemory (processorsIn panel) (slotsIn panel) w l
 
-  abbrev stops : Memory → Bool
-  stops w = watched (maskIn panel) (watchedValue panel w)
-
-  abbrev Quiet : ℕ → Type 0
-  Quiet j = QuietTo (cycleIn panel program) stops (memoryOf old) j
-
   pub none-done : length old ≡ memoryLength → old ≡ bytes (after 0) old
   unfolding moduleIn
   none-done = cycles-none (networkIn panel program) (moduleIn panel program) (t .laid) (t .processors-high) (t .slots-high) (handIn panel) old
@@ -35,32 +29,39 @@ module _ {panel program : List ℕ} (t : Tables panel program) (old : List ℕ) 
   unfolding moduleIn
   one-more j = cycles-more (networkIn panel program) (moduleIn panel program) (t .laid) (t .processors-high) (t .slots-high) (handIn panel) old _ _ j
 
-  -- the test b of the value v at the place of the watched signal x
-  pub told : Watching panel → (j : ℕ) {x v : ℕ} {b : Bool} {l : List ℕ} → x ≡ watchedIn panel → l ≡ bytes (after j) old
-      → v ≡ memoryOf l .earlierLocal (processorIn panel x) (slotIn panel x) → b ≡ watched (maskIn panel) v → stops (after j) ≡ b
-  unfolding moduleIn
-  told watch j =
-      stop-told (networkIn panel program) (moduleIn panel program) (t .laid) (t .processors-high) (t .slots-high) (handIn panel) old (maskIn panel)
-      (processorIn panel) (slotIn panel) (watchedIn panel) (record { processor = watch .processor-low; slot = watch .slot-low }) j _ _ _ _
+  module _ (watch : Watch) where
+    abbrev stops : Memory → Bool
+    stops w = watched (watch .mask) (valueIn panel w (watch .signal))
 
-  pub still-quiet : (j : ℕ) → Quiet j → stops (after (j + 1)) ≡ false → Quiet (j + 1)
-  unfolding moduleIn
-  still-quiet =
-      quiet-more (networkIn panel program) (moduleIn panel program) (t .laid) (t .processors-high) (t .slots-high) (handIn panel) old stops 0
+    abbrev Quiet : ℕ → Type 0
+    Quiet j = QuietTo (cycleIn panel program) stops (memoryOf old) j
 
-  -- the answer of a run, and the bytes that it leaves
-  module _ (k : ℕ) where
-    abbrev Answers : ℕ → Bool → List ℕ → Type 0
-    Answers count stopped l =
-        (count ≡ runIn panel program k (memoryOf old) .count) × (stopped ≡ runIn panel program k (memoryOf old) .stopped)
-        × (l ≡ bytes (runIn panel program k (memoryOf old) .state) old)
+    -- the test b of the value v at the place of the watched signal
+    pub told : Watching panel watch → (j : ℕ) {v : ℕ} {b : Bool} {l : List ℕ} → l ≡ bytes (after j) old
+        → v ≡ valueIn panel (memoryOf l) (watch .signal) → b ≡ watched (watch .mask) v → stops (after j) ≡ b
+    unfolding moduleIn
+    told range j =
+        stop-told (networkIn panel program) (moduleIn panel program) (t .laid) (t .processors-high) (t .slots-high) (handIn panel) old (watch .mask)
+        (processorIn panel) (slotIn panel) (watch .signal) (record { processor = range .processor-low; slot = range .slot-low }) j _ _ _
 
-    pub stopped-run : (j : ℕ) {l : List ℕ} → j + 1 ≤ k → Quiet j → l ≡ bytes (after (j + 1)) old → stops (after (j + 1)) ≡ true → Answers (j + 1) true l
-    unfolding moduleIn runIn
-    stopped-run j =
-        ran-stopped (networkIn panel program) (moduleIn panel program) (t .laid) (t .processors-high) (t .slots-high) (handIn panel) old stops k j _
+    pub still-quiet : (j : ℕ) → Quiet j → stops (after (j + 1)) ≡ false → Quiet (j + 1)
+    unfolding moduleIn
+    still-quiet =
+        quiet-more (networkIn panel program) (moduleIn panel program) (t .laid) (t .processors-high) (t .slots-high) (handIn panel) old stops 0
 
-    pub whole-run : {l : List ℕ} → Quiet k → l ≡ bytes (after k) old → Answers k false l
-    unfolding moduleIn runIn
-    whole-run =
-        ran-whole (networkIn panel program) (moduleIn panel program) (t .laid) (t .processors-high) (t .slots-high) (handIn panel) old stops k _
+    -- the answer of a run, and the bytes that it leaves
+    module _ (k : ℕ) where
+      abbrev Answers : ℕ → Bool → List ℕ → Type 0
+      Answers count stopped l =
+          (count ≡ runIn panel program watch k (memoryOf old) .count) × (stopped ≡ runIn panel program watch k (memoryOf old) .stopped)
+          × (l ≡ bytes (runIn panel program watch k (memoryOf old) .state) old)
+
+      pub stopped-run : (j : ℕ) {l : List ℕ} → j + 1 ≤ k → Quiet j → l ≡ bytes (after (j + 1)) old → stops (after (j + 1)) ≡ true → Answers (j + 1) true l
+      unfolding moduleIn runIn
+      stopped-run j =
+          ran-stopped (networkIn panel program) (moduleIn panel program) (t .laid) (t .processors-high) (t .slots-high) (handIn panel) old stops k j _
+
+      pub whole-run : {l : List ℕ} → Quiet k → l ≡ bytes (after k) old → Answers k false l
+      unfolding moduleIn runIn
+      whole-run =
+          ran-whole (networkIn panel program) (moduleIn panel program) (t .laid) (t .processors-high) (t .slots-high) (handIn panel) old stops k _

@@ -2,25 +2,30 @@
 use Prim.Native.Nat.{ℕ, _≤_, _<_}
 use mathlib.Core.List.{List}
 use Rattle.model.specs.Machine.{Memory, cycle}
-use Rattle.model.specs.Session.{Run, runs, watched}
-use Rattle.buffers_tables.specs.Panel.{processorsIn, slotsIn, watchedIn, maskIn, handIn, processorIn, slotIn}
+use Rattle.model.specs.Session.{Watch, Run, runs, watched}
+use Rattle.buffers_tables.specs.Panel.{processorsIn, slotsIn, handIn, processorIn, slotIn}
 use Rattle.buffers_tables.specs.Tables.{networkIn, moduleIn}
+use Rattle.machine_run.specs.declared.Watch.{Watch as CarriedWatch}
 
 -- one cycle, "fed the input values that the session holds for its next cycle"
 abbrev pub cycleIn : List ℕ → List ℕ → Memory → Memory
 cycleIn panel program w = cycle (networkIn panel program) (moduleIn panel program) (handIn panel) w
 
--- the value of the watched signal, at its place
-abbrev pub watchedValue : List ℕ → Memory → ℕ
-watchedValue panel w = w .earlierLocal (processorIn panel (watchedIn panel)) (slotIn panel (watchedIn panel))
+-- the value of a signal, at its place
+abbrev pub valueIn : List ℕ → Memory → ℕ → ℕ
+valueIn panel w s = w .earlierLocal (processorIn panel s) (slotIn panel s)
+
+-- the watch as the code carries it
+abbrev pub watchOf : CarriedWatch → Watch
+watchOf w = record { signal = w .signal; mask = w .mask }
 
 -- "A run stops after the first cycle whose end shows a watched value, else after k."
-unfoldable pub runIn : List ℕ → List ℕ → ℕ → Memory → Run Memory
-runIn panel program k w = runs (cycleIn panel program) (λ y. watched (maskIn panel) (watchedValue panel y)) k w
+unfoldable pub runIn : List ℕ → List ℕ → Watch → ℕ → Memory → Run Memory
+runIn panel program watch k w = runs (cycleIn panel program) (λ y. watched (watch .mask) (valueIn panel y (watch .signal))) k w
 
 -- the watch is in range: its signal has a place of the module, and its mask is "0 to 15"
-pub record Watching (panel : List ℕ) : Type 0 where
-  pub signal-high : watchedIn panel ≤ 4096
-  pub processor-low : processorIn panel (watchedIn panel) < processorsIn panel
-  pub slot-low : slotIn panel (watchedIn panel) < slotsIn panel
-  pub mask-high : maskIn panel ≤ 15
+pub record Watching (panel : List ℕ) (watch : Watch) : Type 0 where
+  pub signal-high : watch .signal ≤ 4096
+  pub processor-low : processorIn panel (watch .signal) < processorsIn panel
+  pub slot-low : slotIn panel (watch .signal) < slotsIn panel
+  pub mask-high : watch .mask ≤ 15

@@ -11,7 +11,13 @@ ghost use Rattle.model.specs.Session.{watched};
 ghost use Rattle.buffers_memory.specs.Memory.{memoryOf, withMemory, MemoryBytes};
 ghost use Rattle.buffers_tables.specs.Panel.{panelLength, processorsIn, slotsIn, handIn, processorIn, slotIn};
 ghost use Rattle.buffers_tables.specs.Tables.{networkIn, moduleIn, Tables};
-ghost use Rattle.machine_run.specs.Running.{cycleIn, runIn, Watching};
+ghost use Rattle.machine_run.specs.Running.{cycleIn, watchOf, runIn, Watching};
+
+// "the one watch": its signal, and the mask of the values that it watches.
+pub struct Watch {
+    pub signal: u16,
+    pub mask: u8,
+}
 
 // What a run answers: "the cycles done and whether it stopped".
 pub struct Ran {
@@ -70,16 +76,16 @@ pub fn value_of(panel: &[u8], memory: &[u8], signal: u16) -> u8
 }
 
 // "A run stops after the first cycle whose end shows a watched value, else after k."
-pub fn run(panel: &[u8], program: &[u8], memory: &mut [u8], cycles: Cycle) -> Ran
+pub fn run(panel: &[u8], program: &[u8], memory: &mut [u8], watch: Watch, cycles: Cycle) -> Ran
     requires { ⌜ Tables (now panel) (now program) ⌝ }
-    requires { ⌜ Watching (now panel) ⌝ }
+    requires { ⌜ Watching (now panel) (watchOf watch) ⌝ }
     requires { ⌜ MemoryBytes (now memory) ⌝ }
-    ensures { λ r. ⌜ (r .done .0 ≡ runIn (now (panel .entry)) (now (program .entry)) (cycles .0) (memoryOf (now (memory .entry))) .count) × (r .stopped ≡ runIn (now (panel .entry)) (now (program .entry)) (cycles .0) (memoryOf (now (memory .entry))) .stopped) × (now (memory .exit) ≡ withMemory (processorsIn (now (panel .entry))) (slotsIn (now (panel .entry))) (runIn (now (panel .entry)) (now (program .entry)) (cycles .0) (memoryOf (now (memory .entry))) .state) (now (memory .entry))) ⌝ }
+    ensures { λ r. ⌜ (r .done .0 ≡ runIn (now (panel .entry)) (now (program .entry)) (watchOf watch) (cycles .0) (memoryOf (now (memory .entry))) .count) × (r .stopped ≡ runIn (now (panel .entry)) (now (program .entry)) (watchOf watch) (cycles .0) (memoryOf (now (memory .entry))) .stopped) × (now (memory .exit) ≡ withMemory (processorsIn (now (panel .entry))) (slotsIn (now (panel .entry))) (runIn (now (panel .entry)) (now (program .entry)) (watchOf watch) (cycles .0) (memoryOf (now (memory .entry))) .state) (now (memory .entry))) ⌝ }
 {
     let processors = words::widened(panel[2]) as usize;
     let slots = words::word_at(panel, 3);
-    let signal = words::word_at(panel, 7);
-    let mask = panel[9];
+    let signal = watch.signal;
+    let mask = watch.mask;
     let k = cycles.0;
     let mut done: u16 = 0;
     while done < k {

@@ -13,6 +13,7 @@ use Rattle.buffers_range.specs.Ranges.{ranged}
 use Rattle.buffers_range.proofs.Ranged.{head-ranged, ranged-tables, ranged-memory}
 use Rattle.buffers_tables.specs.Tables.{Tables}
 use Rattle.machine_run.specs.Running.{Watching}
+use Rattle.session_state.specs.Header.{headIn}
 use Rattle.session_answers.specs.declared.CallAnswer.{CallAnswer}
 use Rattle.session_answers.specs.declared.CallAnswer.the-variants.{WrongLength, OutOfRange}
 use Rattle.session_calls.specs.declared.Ready.{Ready}
@@ -90,5 +91,5 @@ module _ (b : Buffers) (r : Ready) (judged : r ≡ readyOf b) (e : r ≡ Right) 
   pub right-tables : Tables (b .panel) (b .program)
   right-tables = ranged-tables (b .panel) (b .program) (b .memory) (right-sizes .panel-size) (right-sizes .program-size) (right-both .1)
 
-  pub right-watching : Watching (b .panel)
+  pub right-watching : Watching (b .panel) (headIn (b .panel) .watch)
   right-watching = ranged-watching (b .panel) (b .program) (b .memory) (right-both .1)

@@ -14,24 +14,27 @@ use Rattle.buffers_range.specs.Ranges.{ranged}
 use Rattle.session_answers.specs.declared.CallAnswer.{CallAnswer}
 use Rattle.session_answers.specs.Answers.{callAnswer, answerBits}
 use Rattle.session_state.specs.declared.Told.{Told}
-use Rattle.session_state.specs.Header.{headIn, headOf, withHead}
+use Rattle.session_state.specs.Header.{headIn, withHead}
+use Rattle.session_state.specs.Carried.{headOf}
 use Rattle.buffers_lengths.specs.Lengths.{fixed}
 use Rattle.session_state.specs.Commands.{commanded, Tells}
+use Rattle.session_state.proofs.Heads.{head-written}
 use Rattle.session_calls.specs.declared.Ready.{Ready}
 use Rattle.session_calls.specs.declared.Ready.the-variants.{Right, Refused}
 use Rattle.session_calls.specs.Reply.{Buffers, buffersOf, lengthsOf, Reply, leaving, replied, reply}
 use Rattle.session_calls.specs.Ready.{readyOf, Writes}
 use Rattle.session_calls.proofs.Judged.{Sizes, same-lengths, Refuses, by-40, by-44, found, right-sizes, right-range}
 
--- a command on the head that the panel holds, answered and encoded
+-- a command on the head that the panel holds, answered and encoded into the panel as it left it
 pub writes : (panel program memory : List ℕ) (call : Call) (h : Head) → h ≡ headIn panel → withHead (headIn panel) panel ≡ panel → (told : Told)
-    → Tells (commanded panel program memory h call) told → (bits : ℕ) (left : List ℕ) → bits ≡ answerBits (callAnswer (told .answer)) → left ≡ withHead (headOf (told .session)) panel
-    → Writes (commanded panel program memory (headIn panel) call) panel bits left
-writes panel program memory call h e own told t bits left a b =
+    (mid : List ℕ) → Tells (commanded panel program memory h call) told panel mid → (bits : ℕ) (left : List ℕ) → bits ≡ answerBits (callAnswer (told .answer))
+    → left ≡ withHead (headOf (told .session) mid) mid → Writes (commanded panel program memory (headIn panel) call) panel bits left
+writes panel program memory call h e own told mid t bits left a b =
     record {
       answer = a ∙ ap answerBits (t .answer) ∙ ap (λ (x : Head). answerBits (commanded panel program memory x call .answer)) e;
       written =
-          b ∙ ap (λ (x : Head). withHead x panel) (t .head) ∙ ap (λ (x : Head). withHead (commanded panel program memory x call .head) panel) e;
+          b ∙ head-written (commanded panel program memory h call .head) panel mid _ _ (t .finished) (t .watch) (t .hand)
+          ∙ ap (λ (x : Head). withHead (commanded panel program memory x call .head) panel) e;
       own = own;
     }
 
@@ -74,13 +77,16 @@ module _ (panel program memory : List ℕ) (h : Head) where
       go pass = refl
       go (fail number returned) = refl
 
--- a read writes nothing: the head that it hands back is the panel's own
+-- a read writes nothing: the head of its outcome is the panel's own
 pub reads : (panel program memory : List ℕ) (s : ℕ) (h : Head) → h ≡ headIn panel → withHead (headIn panel) panel ≡ panel
-    → (told : Told) → Tells (commanded panel program memory h (read s)) told → (bits : ℕ) → bits ≡ answerBits (callAnswer (told .answer))
+    → (told : Told) → Tells (commanded panel program memory h (read s)) told panel panel → (bits : ℕ) → bits ≡ answerBits (callAnswer (told .answer))
     → Writes (commanded panel program memory (headIn panel) (read s)) panel bits panel
 reads panel program memory s h e own told t bits a =
-    writes panel program memory (read s) h e own told t bits panel a
-    (sym (ap (λ (x : Head). withHead x panel) (t .head ∙ read-head panel program memory h s ∙ e) ∙ own))
+    record {
+      answer = a ∙ ap answerBits (t .answer) ∙ ap (λ (x : Head). answerBits (commanded panel program memory x (read s) .answer)) e;
+      written = sym (ap (λ (x : Head). withHead x panel) (read-head panel program memory (headIn panel) s) ∙ own);
+      own = own;
+    }
 
 -- what a call replies, by the lengths and the ranges of its buffers
 module _ (b : Buffers) (c : Call) where

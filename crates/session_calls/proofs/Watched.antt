@@ -1,4 +1,4 @@
--- In buffers in range a signal has a place of the module, the watched one too.
+-- In buffers in range a signal has a place of the module, the watched one of the panel too.
 use mathlib.Core.Path.{_≡_}
 use mathlib.Core.Bool.{true}
 use mathlib.Core.List.{List}
@@ -8,8 +8,9 @@ use Rattle.buffers_tables.specs.Panel.{signalsIn, watchedIn, processorIn}
 use Rattle.buffers_range.specs.Ranges.{ranged}
 use Rattle.buffers_range.proofs.Ranged.{head-ranged, signal-ranged}
 use Rattle.machine_run.specs.Running.{Watching}
+use Rattle.session_state.specs.Header.{headIn}
 
-pub ranged-watching : (panel program memory : List ℕ) → ranged panel program memory ≡ true → Watching panel
+pub ranged-watching : (panel program memory : List ℕ) → ranged panel program memory ≡ true → Watching panel (headIn panel .watch)
 ranged-watching panel program memory h =
     let head = head-ranged panel program memory h in
     let signal = signal-ranged panel program memory h (watchedIn panel) (head .watched-low) (head .watched-high) in

@@ -10,7 +10,8 @@ ghost use Rattle.buffers_tables.specs.Panel.{panelLength, signalsIn, processorI
 ghost use Rattle.buffers_tables.specs.Tables.{Tables};
 ghost use Rattle.machine_run.specs.Running.{Watching};
 ghost use Rattle.session_answers.specs.Answers.{callAnswer, answerBits};
-ghost use Rattle.session_state.specs.Header.{headIn, headOf, withHead};
+ghost use Rattle.session_state.specs.Header.{headIn, withHead};
+ghost use Rattle.session_state.specs.Carried.{headOf};
 ghost use Rattle.session_state.specs.Commands.{commanded};
 ghost use Rattle.session_calls.specs.Reply.{buffersOf, reply};
 ghost use Rattle.session_calls.specs.Ready.{readyOf, Writes};
@@ -40,7 +41,7 @@ fn readiness(panel: &[u8], program: &[u8], memory: &[u8]) -> Ready
 fn tell(told: Told, panel: &mut [u8]) -> u64
     requires { ⌜ length (now panel) ≡ panelLength ⌝ }
     ensures { λ r. ⌜ r ≡ answerBits (callAnswer (told .answer)) ⌝ }
-    ensures { λ _. ⌜ now (panel .exit) ≡ withHead (headOf (told .session)) (now (panel .entry)) ⌝ }
+    ensures { λ _. ⌜ now (panel .exit) ≡ withHead (headOf (told .session) (now (panel .entry))) (now (panel .entry)) ⌝ }
 {
     let session = told.session;
     let answer = told.answer;
@@ -85,7 +86,7 @@ fn read_in(panel: &[u8], memory: &[u8], signal: u32) -> u64
 // A run, on buffers in range.
 fn run_in(panel: &mut [u8], program: &[u8], memory: &mut [u8], cycles: u32) -> u64
     requires { ⌜ Tables (now panel) (now program) ⌝ }
-    requires { ⌜ Watching (now panel) ⌝ }
+    requires { ⌜ Watching (now panel) (headIn (now panel) .watch) ⌝ }
     requires { ⌜ MemoryBytes (now memory) ⌝ }
     ensures { λ r. ⌜ Writes (commanded (now (panel .entry)) (now (program .entry)) (now (memory .entry)) (headIn (now (panel .entry))) (running cycles)) (now (panel .entry)) r (now (panel .exit)) ⌝ }
     ensures { λ _. ⌜ now (memory .exit) ≡ withMemory (processorsIn (now (panel .entry))) (slotsIn (now (panel .entry))) (commanded (now (panel .entry)) (now (program .entry)) (now (memory .entry)) (headIn (now (panel .entry))) (running cycles) .state) (now (memory .entry)) ⌝ }

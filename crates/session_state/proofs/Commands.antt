@@ -1,23 +1,24 @@
 -- What the model says of a call, case by case, as the commands test it.
 use Prim.Native.Nat.{ℕ, _≤_, _<_}
-use mathlib.Core.Path.{_≡_, refl, sym, _∙_, ap}
+use mathlib.Core.Path.{_≡_, refl, sym, subst, _∙_, ap}
 use mathlib.Core.Bool.{Bool, true, false, not}
 use mathlib.Core.List.{List}
 use lib.Dec.{eqb, leb}
-use borrow.Author.Tests.{leb-true, le-leb, lt-leb}
+use borrow.Author.Tests.{eqb-true, leb-true, le-leb, lt-leb}
 use Rattle.logic.specs.Test.{_and_}
 use Rattle.logic.proofs.Tests.{and-left, and-right}
 use Rattle.logic.proofs.Judged.{fails, passes}
 use Rattle.model.specs.Refusal.{Check, pass, fail, first, unless}
-use Rattle.model.specs.Network.{isSignal}
+use Rattle.model.specs.Network.{isSignal, input}
 use Rattle.model.specs.Machine.{Memory}
 use Rattle.model.specs.Session.{lockstep, Head, Call, set, watch, read, refused, done, value, Outcome, callCheck, perform, meet}
 use Rattle.buffers_memory.specs.Memory.{memoryOf}
 use Rattle.buffers_tables.specs.Panel.{signalsIn, kindIn, processorIn, slotIn}
 use Rattle.buffers_tables.specs.Tables.{networkIn, moduleIn}
+use Rattle.machine_run.specs.Running.{watchOf}
 use Rattle.session_answers.specs.Answers.{callAnswer}
 use Rattle.session_state.specs.declared.Told.{Told}
-use Rattle.session_state.specs.Header.{headOf}
+use Rattle.session_state.specs.Carried.{withHand}
 use Rattle.buffers_lengths.specs.Lengths.{fixed}
 use Rattle.session_state.specs.Commands.{signalIn, inputIn, withValue, commanded, Tells}
 
@@ -35,6 +36,10 @@ module _ (panel : List ℕ) (s : ℕ) where
   unfolding inputIn
   input-signal e = and-left _ _ e
 
+  pub input-kind : inputIn panel s ≡ true → kindIn panel s ≡ input
+  unfolding inputIn
+  input-kind e = eqb-true (kindIn panel s) input (and-right _ _ e)
+
 module _ (panel : List ℕ) (s : ℕ) (r : Bool) (e : r ≡ signalIn panel s) where
   pub input-stops : not r ≡ true → false ≡ inputIn panel s
   unfolding inputIn _and_
@@ -45,9 +50,11 @@ module _ (panel : List ℕ) (s : ℕ) (r : Bool) (e : r ≡ signalIn panel s) wh
   input-goes-on h = rw (passes r (signalIn panel s) e h)
 
 -- if a command's outcome is known by an equation, what it tells is told by that
-pub tells : {State : Type 0} (o p : Outcome State) (told : Told) → o ≡ p → callAnswer (told .answer) ≡ p .answer → headOf (told .session) ≡ p .head → Tells o told
-tells {State} o p told e a b =
-    record { answer = a ∙ sym (ap (λ (x : Outcome State). x .answer) e); head = b ∙ sym (ap (λ (x : Outcome State). x .head) e) }
+pub tells : {State : Type 0} (o p : Outcome State) (told : Told) (before after : List ℕ) → o ≡ p → callAnswer (told .answer) ≡ p .answer
+    → told .session .finished .0 ≡ p .head .finished → watchOf (told .session .watch) ≡ p .head .watch → after ≡ withHand (p .head .hand) before
+    → Tells o told before after
+tells {State} o p told before after e a t w hand =
+    subst (λ (x : Outcome State). Tells x told before after) (sym e) (record { answer = a; finished = t; watch = w; hand = hand })
 
 module _ (panel program memory : List ℕ) (h : Head) (s : ℕ) where
   abbrev leaves : Call → Check → Outcome Memory
@@ -85,7 +92,8 @@ module _ (panel program memory : List ℕ) (h : Head) (s : ℕ) where
 
   abbrev TellsRefusal : Call → ℕ → ℕ → Type 0
   TellsRefusal call number returned =
-      (told : Told) → callAnswer (told .answer) ≡ refused number returned → headOf (told .session) ≡ h → Tells (commanded panel program memory h call) told
+      (told : Told) → callAnswer (told .answer) ≡ refused number returned → told .session .finished .0 ≡ h .finished → watchOf (told .session .watch) ≡ h .watch
+      → panel ≡ withHand (h .hand) panel → Tells (commanded panel program memory h call) told panel panel
 
   -- a call that names a signal and gives a number: 41 where the signal is not known, then 42 where the number is above its limit
   module _ (call : Call) (known : Bool) (given limit : ℕ)
@@ -105,10 +113,10 @@ module _ (panel program memory : List ℕ) (h : Head) (s : ℕ) where
     -- by the code's test of the signal
     module _ (r : Bool) (tested : r ≡ known) where
       tells-41 : not r ≡ true → TellsRefusal call 41 s
-      tells-41 stops told = tells _ _ told (unknown (fails r known tested stops))
+      tells-41 stops told = tells _ _ told _ _ (unknown (fails r known tested stops))
 
       tells-42 : not r ≡ false → limit < given → TellsRefusal call 42 given
-      tells-42 goes-on l told = tells _ _ told (above (passes r known tested goes-on) l)
+      tells-42 goes-on l told = tells _ _ told _ _ (above (passes r known tested goes-on) l)
 
   module _ (v : ℕ) where
     pub set-no-signal : inputIn panel s ≡ false → Refusal (set s v) 41 s

@@ -1,56 +1,19 @@
--- Heads are equal where their numbers are. The head of a panel is what is decoded, and written back it changes no byte.
+-- The head of a panel, written back, changes no byte; and a head written after its values in hand is the head written at once.
 use Prim.Native.Nat.{ℕ, zero, suc, _+_, _*_, _/_, _%_, _≤_, _<_}
-use mathlib.Core.Path.{_≡_, refl, sym, _∙_, ap, fun-ext}
+use mathlib.Core.Path.{_≡_, refl, sym, _∙_, ap}
 use mathlib.Core.Bool.{Bool, true, false}
-use mathlib.Core.List.{List, [], _∷_}
+use mathlib.Core.List.{List}
 use native.Mathlib.Omega.{arith}
-use lib.Dec.{eqb, leb}
-use lib.ListN.{length, getD, set}
-use borrow.Author.Tests.{eqb-true, leb-true, leb-false}
+use lib.Dec.{eqb}
+use lib.ListN.{length, getD}
+use borrow.Author.Tests.{eqb-true, eqb-false}
 use Rattle.logic.specs.Choice.{if_then_else_}
-use Rattle.logic.specs.Listed.{listed}
-use Rattle.logic.proofs.Listed.{is-listed, listed-at, listed-length, set-at}
-use Rattle.model.specs.Session.{Head, replaced}
-use Rattle.buffers_tables.specs.Panel.{panelLength, finishedIn, watchedIn, maskIn, handIn}
+use Rattle.logic.proofs.Listed.{is-listed, listed-at, listed-length}
+use Rattle.model.specs.Session.{Head, Watch}
+use Rattle.buffers_tables.specs.Panel.{panelLength, handIn}
 use Rattle.session_state.specs.Header.{headIn, headBytes, headByte, withHead}
-
-abbrev pub headWith : ℕ → (ℕ → ℕ) → ℕ → ℕ → Head
-headWith finished hand signal mask = record { finished = finished; hand = hand; watch = record { signal = signal; mask = mask } }
-
-pub same-head : (t u : ℕ) (f g : ℕ → ℕ) (s r m k : ℕ) → t ≡ u → ((x : ℕ) → f x ≡ g x) → s ≡ r → m ≡ k → headWith t f s m ≡ headWith u g r k
-same-head t u f g s r m k a b c d =
-    ap (λ (x : ℕ). headWith x f s m) a ∙ ap (λ (x : ℕ → ℕ). headWith u x s m) (fun-ext b)
-    ∙ ap (λ (x : ℕ). headWith u g x m) c ∙ ap (λ (x : ℕ). headWith u g r x) d
-
--- past the end of a list there is nothing
-pub past-end : (l : List ℕ) (k : ℕ) → length l ≤ k → getD l k 0 ≡ 0
-past-end [] k h = refl
-past-end (x ∷ l) zero h = absurd (omega arith)
-past-end (x ∷ l) (suc k) h = past-end l k (omega arith)
-
-module _ (panel hand : List ℕ) (size : length panel ≡ panelLength) (is : hand ≡ listed 4097 (handIn panel)) where
-  decoded-hand : (s : ℕ) → getD hand s 0 ≡ handIn panel s
-  decoded-hand s = go (leb s 4096) refl
-    where
-      go : (b : Bool) → leb s 4096 ≡ b → getD hand s 0 ≡ handIn panel s
-      go true e =
-          let l = leb-true s 4096 e in
-          ap (λ (x : List ℕ). getD x s 0) is ∙ listed-at 4097 (handIn panel) s (omega arith)
-      go false e =
-          let l = leb-false s 4096 e in
-          let n : length hand ≡ 4097 = ap length is ∙ listed-length 4097 (handIn panel) in
-          past-end hand s (omega arith) ∙ sym (past-end panel (10 * s + 7) (omega arith))
-
-  pub decoded : (finished signal mask : ℕ) → finished ≡ finishedIn panel → signal ≡ watchedIn panel → mask ≡ maskIn panel
-      → headWith finished (λ k. getD hand k 0) signal mask ≡ headIn panel
-  decoded finished signal mask a b c = same-head _ _ _ _ _ _ _ _ a decoded-hand b c
-
--- a value in hand, stored
-pub valued : (finished signal mask : ℕ) (hand : List ℕ) (s v : ℕ) → length hand ≡ 4097 → s ≤ 4096
-    → headWith finished (λ k. getD (set hand s v) k 0) signal mask ≡ headWith finished (replaced (λ k. getD hand k 0) s v) signal mask
-unfolding replaced
-valued finished signal mask hand s v size l =
-    same-head _ _ _ _ _ _ _ _ refl (λ k. set-at hand s v k (omega arith)) refl refl
+use Rattle.session_state.specs.Carried.{withHand}
+use Rattle.session_state.proofs.Hands.{with-hand-hand, with-hand-kept}
 
 -- a panel with its own head is the same panel, where the low bytes of the cycles finished and of the watch are bytes
 module _ (panel : List ℕ) (size : length panel ≡ panelLength) (finished-low : getD panel 5 0 < 256) (watched-low : getD panel 7 0 < 256) where
@@ -84,3 +47,42 @@ module _ (panel : List ℕ) (size : length panel ≡ panelLength) (finished-low 
       at a l =
           let q : 10 * (a / 10) + a % 10 ≡ a = omega arith in
           ap (λ (x : ℕ). getD panel x 0) (sym q) ∙ own-byte (a / 10) (a % 10) (omega arith)
+
+-- the values in hand of a head, and then its numbers
+module _ (h : Head) (panel : List ℕ) where
+  abbrev handed : List ℕ
+  handed = withHand (h .hand) panel
+
+  byte-after : (s column : ℕ) → s ≤ 4096 → column < 10
+      → headByte (record { finished = h .finished; hand = handIn handed; watch = h .watch }) handed s column ≡ headByte h panel s column
+  unfolding headByte
+  byte-after zero column high l = ap (λ (bytes : List ℕ). getD bytes column 0) same
+    where
+      kept : (a : ℕ) → a < 10 → getD handed a 0 ≡ getD panel a 0
+      kept a b = with-hand-kept (h .hand) panel a (omega arith) (λ u e. omega arith)
+
+      same : headBytes (record { finished = h .finished; hand = handIn handed; watch = h .watch }) handed ≡ headBytes h panel
+      same = cc (kept 0 (omega arith), kept 1 (omega arith), kept 2 (omega arith), kept 3 (omega arith), kept 4 (omega arith))
+  byte-after (suc s) column high l = go (eqb column 7) refl
+    where
+      go : (b : Bool) → eqb column 7 ≡ b
+          → (if b then handIn handed (suc s) else getD handed (10 * suc s + column) 0) ≡ (if b then h .hand (suc s) else getD panel (10 * suc s + column) 0)
+      go true e = with-hand-hand (h .hand) panel (suc s) (omega arith) high
+      go false e =
+          let d = eqb-false column 7 e in
+          with-hand-kept (h .hand) panel (10 * suc s + column) (omega arith) (λ u q. d (omega arith))
+
+  head-after-hand : withHead (record { finished = h .finished; hand = handIn handed; watch = h .watch }) handed ≡ withHead h panel
+  unfolding withHead
+  head-after-hand =
+      is-listed (withHead (record { finished = h .finished; hand = handIn handed; watch = h .watch }) handed) panelLength _ (listed-length panelLength _)
+      (λ a l. listed-at panelLength _ a l ∙ byte-after (a / 10) (a % 10) (omega arith) (omega arith))
+
+-- a session's numbers written into a panel that has a head's values in hand
+pub head-written : (h : Head) (panel left : List ℕ) (finished : ℕ) (watch : Watch) → finished ≡ h .finished → watch ≡ h .watch → left ≡ withHand (h .hand) panel
+    → withHead (record { finished = finished; hand = handIn left; watch = watch }) left ≡ withHead h panel
+head-written h panel left finished watch f w e =
+    ap (λ (x : ℕ). withHead (record { finished = x; hand = handIn left; watch = watch }) left) f
+    ∙ ap (λ (x : Watch). withHead (record { finished = h .finished; hand = handIn left; watch = x }) left) w
+    ∙ ap (λ (x : List ℕ). withHead (record { finished = h .finished; hand = handIn x; watch = h .watch }) x) e
+    ∙ head-after-hand h panel

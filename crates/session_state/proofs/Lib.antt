@@ -1,4 +1,5 @@
 pub mod Stored
+pub mod Hands
 pub mod Heads
 pub mod Commands
 pub mod Running

@@ -1,18 +1,17 @@
 -- What the model says of a run, as the command does it.
 use Prim.Native.Nat.{ℕ, _+_, _≤_, _<_}
-use mathlib.Core.Path.{_≡_, sym, subst, _∙_, ap}
+use mathlib.Core.Path.{_≡_, sym, _∙_, ap}
 use mathlib.Core.List.{List}
 use lib.ListN.{length}
 use borrow.Author.Tests.{le-leb, lt-leb}
 use Rattle.model.specs.Refusal.{unless}
 use Rattle.model.specs.Machine.{Memory}
-use Rattle.model.specs.Session.{Head, run, refused, ran, Outcome, watched, callCheck, running, perform, meet}
+use Rattle.model.specs.Session.{Head, Watch, run, refused, ran, Outcome, watched, callCheck, running, perform, meet}
 use Rattle.model.proofs.Runs.{runs-exact}
 use Rattle.buffers_memory.specs.Memory.{memoryLength, memoryOf, within, withMemory}
 use Rattle.buffers_memory.proofs.Written.{written-self}
-use Rattle.buffers_tables.specs.Panel.{processorsIn, slotsIn, maskIn}
-use Rattle.machine_run.specs.Running.{cycleIn, watchedValue, runIn}
-use Rattle.session_state.specs.Header.{headIn}
+use Rattle.buffers_tables.specs.Panel.{processorsIn, slotsIn, handIn}
+use Rattle.machine_run.specs.Running.{cycleIn, valueIn, runIn}
 use Rattle.session_state.specs.Commands.{commanded}
 
 module _ (panel program memory : List ℕ) (h : Head) (k : ℕ) where
@@ -28,22 +27,19 @@ module _ (panel program memory : List ℕ) (h : Head) (k : ℕ) where
       written-self (within (processorsIn panel) (slotsIn panel)) memory size
       ∙ ap (λ (o : Outcome Memory). withMemory (processorsIn panel) (slotsIn panel) (o .state) memory) (sym (run-refused l))
 
-  abbrev done : Outcome Memory
-  done =
-      let r = runIn panel program k (memoryOf memory) in
-      record { answer = ran (r .count) (r .stopped); head = record { finished = h .finished + r .count; hand = h .hand; watch = h .watch }; state = r .state }
+-- a run that is not refused, of a session over the panel: the machine takes the values in hand from there
+module _ (panel program memory : List ℕ) (finished : ℕ) (watch : Watch) (k : ℕ) where
+  abbrev head : ℕ → Head
+  head t = record { finished = t; hand = handIn panel; watch = watch }
 
--- a run that is not refused, of the session that the panel holds
-pub run-done : (panel program memory : List ℕ) (h : Head) (k : ℕ) → h ≡ headIn panel → h .finished + k ≤ 65535
-    → commanded panel program memory h (run k) ≡ done panel program memory h k
-unfolding meet callCheck unless perform running runIn
-run-done panel program memory h k e l =
-    subst (λ (x : Head). x .finished + k ≤ 65535 → commanded panel program memory x (run k) ≡ done panel program memory x k) (sym e) go l
-  where
-    go : headIn panel .finished + k ≤ 65535 → commanded panel program memory (headIn panel) (run k) ≡ done panel program memory (headIn panel) k
-    go b = rw (le-leb (headIn panel .finished + k) 65535 b)
+  pub run-done : finished + k ≤ 65535
+      → commanded panel program memory (head finished) (run k)
+      ≡ (let r = runIn panel program watch k (memoryOf memory) in
+      record { answer = ran (r .count) (r .stopped); head = head (finished + r .count); state = r .state })
+  unfolding meet callCheck unless perform running runIn
+  run-done l = rw (le-leb (finished + k) 65535 l)
 
 -- it does no more than k cycles
-pub run-most : (panel program : List ℕ) (w : Memory) (k : ℕ) → runIn panel program k w .count ≤ k
+pub run-most : (panel program : List ℕ) (watch : Watch) (w : Memory) (k : ℕ) → runIn panel program watch k w .count ≤ k
 unfolding runIn
-run-most panel program w k = runs-exact (cycleIn panel program) (λ y. watched (maskIn panel) (watchedValue panel y)) k w .most
+run-most panel program watch w k = runs-exact (cycleIn panel program) (λ y. watched (watch .mask) (valueIn panel y (watch .signal))) k w .most

@@ -12,9 +12,10 @@ use Rattle.buffers_memory.specs.Memory.{memoryOf}
 use Rattle.buffers_tables.specs.Panel.{signalsIn, kindIn, processorIn, slotIn}
 use Rattle.buffers_tables.specs.Tables.{networkIn, moduleIn}
 use Rattle.buffers_lengths.specs.Lengths.{fixed}
+use Rattle.machine_run.specs.Running.{watchOf}
 use Rattle.session_answers.specs.Answers.{callAnswer}
 use Rattle.session_state.specs.declared.Told.{Told}
-use Rattle.session_state.specs.Header.{headOf}
+use Rattle.session_state.specs.Carried.{withHand}
 
 abbrev pub commanded : List ℕ → List ℕ → List ℕ → Head → Call → Outcome Memory
 commanded panel program memory head call =
@@ -33,7 +34,10 @@ inputIn panel s = signalIn panel s and eqb (kindIn panel s) input
 abbrev pub withValue : Head → ℕ → ℕ → Head
 withValue h s v = record { finished = h .finished; hand = replaced (h .hand) s v; watch = h .watch }
 
--- a command's answer and the session that it hands back are those of an outcome, whatever the engine's state
-pub record Tells {State : Type 0} (o : Outcome State) (told : Told) : Type 0 where
+-- What a command tells is an outcome, whatever the engine's state: its answer, the cycles finished and the watch of the session that it
+-- hands back, and the values in hand, which the command leaves in the panel. No other byte of the panel changes.
+pub record Tells {State : Type 0} (o : Outcome State) (told : Told) (before after : List ℕ) : Type 0 where
   pub answer : callAnswer (told .answer) ≡ o .answer
-  pub head : headOf (told .session) ≡ o .head
+  pub finished : told .session .finished .0 ≡ o .head .finished
+  pub watch : watchOf (told .session .watch) ≡ o .head .watch
+  pub hand : after ≡ withHand (o .head .hand) before

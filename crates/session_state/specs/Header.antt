@@ -1,5 +1,5 @@
 -- The session's head (01, Session: "It keeps the cycles finished t, a value in hand for each input, the watch") as a panel's bytes hold
--- it, and as the code carries it by value.
+-- it.
 use Prim.Native.Nat.{ℕ, zero, suc, _+_, _*_, _/_, _%_}
 use mathlib.Core.List.{List, [], _∷_}
 use lib.Dec.{eqb}
@@ -8,21 +8,11 @@ use Rattle.logic.specs.Choice.{if_then_else_}
 use Rattle.logic.specs.Listed.{listed}
 use Rattle.model.specs.Session.{Head}
 use Rattle.buffers_tables.specs.Panel.{panelLength, finishedIn, watchedIn, maskIn, handIn}
-use Rattle.session_state.specs.declared.Session.{Session}
 
 -- the head that the panel's bytes hold
 abbrev pub headIn : List ℕ → Head
 headIn panel =
     record { finished = finishedIn panel; hand = handIn panel; watch = record { signal = watchedIn panel; mask = maskIn panel } }
-
--- the head that a session holds; its values in hand are an array by signal
-abbrev pub headOf : Session → Head
-headOf s =
-    record {
-      finished = s .finished .0;
-      hand = λ k. getD (s .hand) k 0;
-      watch = record { signal = s .watch .signal; mask = s .watch .mask };
-    }
 
 -- the session's ten bytes with a head written into them: N, P and C stay
 abbrev pub headBytes : Head → List ℕ → List ℕ

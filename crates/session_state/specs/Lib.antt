@@ -1,3 +1,4 @@
 pub mod Header
+pub mod Carried
 pub mod Stores
 pub mod Commands

@@ -1,8 +1,8 @@
 -- The stores that write a head into the panel, in the order of the code: they mirror private functions, and `withHead` is what a caller
 -- reads.
-use Prim.Native.Nat.{ℕ, zero, suc, _+_, _*_, _/_, _%_}
+use Prim.Native.Nat.{ℕ, _+_, _/_, _%_}
 use mathlib.Core.List.{List}
-use lib.ListN.{getD, set}
+use lib.ListN.{set}
 
 -- a number in two bytes
 unfoldable pub wordStored : ℕ → ℕ → List ℕ → List ℕ
@@ -11,8 +11,3 @@ wordStored number at panel = set (set panel at (number % 256)) (at + 1) (number 
 -- the cycles finished and the watch
 unfoldable pub numbersStored : ℕ → ℕ → ℕ → List ℕ → List ℕ
 numbersStored finished signal mask panel = set (wordStored signal 7 (wordStored finished 5 panel)) 9 mask
-
--- the values in hand of signals 1 to n
-unfoldable pub handStored : List ℕ → ℕ → List ℕ → List ℕ
-handStored hand zero panel = panel
-handStored hand (suc n) panel = set (handStored hand n panel) (10 * n + 17) (getD hand (suc n) 0)

@@ -2,31 +2,25 @@
 
 ghost use mathlib.Core.Path.{_≡_};
 ghost use mathlib.Core.List.{List};
-ghost use Prim.Native.Nat.{ℕ, _≤_, _<_};
+ghost use Prim.Native.Nat.{ℕ, _+_, _*_, _≤_, _<_};
 ghost use lib.ListN.{length, set};
-ghost use Rattle.logic.specs.Listed.{listed};
 ghost use Rattle.model.specs.Session.{set as setting, watch as watching, read as reading, run as running};
 ghost use Rattle.buffers_memory.specs.Memory.{withMemory, MemoryBytes};
-ghost use Rattle.buffers_tables.specs.Panel.{panelLength, signalsIn, handIn, processorIn, processorsIn, slotsIn};
+ghost use Rattle.buffers_tables.specs.Panel.{panelLength, signalsIn, processorIn, processorsIn, slotsIn};
 ghost use Rattle.buffers_tables.specs.Tables.{Tables};
-ghost use Rattle.machine_run.specs.Running.{Watching};
-ghost use Rattle.session_state.specs.Header.{headIn, headOf, withHead};
-ghost use Rattle.session_state.specs.Stores.{wordStored, numbersStored, handStored};
-ghost use Rattle.session_state.specs.Commands.{signalIn, inputIn, withValue, commanded, Tells};
+ghost use Rattle.machine_run.specs.Running.{watchOf, Watching};
+ghost use Rattle.session_state.specs.Header.{headIn, withHead};
+ghost use Rattle.session_state.specs.Carried.{headOf};
+ghost use Rattle.session_state.specs.Stores.{wordStored, numbersStored};
+ghost use Rattle.session_state.specs.Commands.{signalIn, inputIn, commanded, Tells};
 use clock::Cycle;
+use machine_run::Watch;
 use session_answers::CallAnswer;
 
-// "the one watch": its signal, and the mask of the values that it watches.
-pub struct Watch {
-    pub signal: u16,
-    pub mask: u8,
-}
-
-// The session's head: the cycles finished, the watch, and the values in hand by signal, 1 to 4096. Index 0 is no signal.
+// The session's header: the cycles finished and the watch. Its values in hand stand in the panel alone, where the machine reads them.
 pub struct Session {
     pub finished: Cycle,
     pub watch: Watch,
-    pub hand: [u8; 4097],
 }
 
 // What a command answers, and the new session.
@@ -35,32 +29,17 @@ pub struct Told {
     pub answer: CallAnswer,
 }
 
-// The values in hand, by signal.
-fn take_hand(panel: &[u8], hand: &mut [u8])
-    requires { ⌜ (length (now panel) ≡ panelLength) × (length (now hand) ≡ 4097) ⌝ }
-    ensures { λ _. ⌜ now (hand .exit) ≡ listed 4097 (handIn (now (panel .entry))) ⌝ }
-{
-    let mut s: usize = 0;
-    while s < hand.len() {
-        hand[s] = panel[10 * s + 7];
-        s += 1;
-    }
-}
-
 // The session that a panel holds. Written back as it is, it changes no byte.
 pub fn decode(panel: &[u8]) -> Session
     requires { ⌜ length (now panel) ≡ panelLength ⌝ }
-    ensures { λ r. ⌜ (headOf r ≡ headIn (now (panel .entry))) × (withHead (headIn (now (panel .entry))) (now (panel .entry)) ≡ now (panel .entry)) ⌝ }
+    ensures { λ r. ⌜ (headOf r (now (panel .entry)) ≡ headIn (now (panel .entry))) × (withHead (headIn (now (panel .entry))) (now (panel .entry)) ≡ now (panel .entry)) ⌝ }
 {
-    let mut hand = [0u8; 4097];
-    take_hand(panel, &mut hand);
     Session {
         finished: Cycle(words::word_of(panel[5], panel[6])),
         watch: Watch {
             signal: words::word_of(panel[7], panel[8]),
             mask: panel[9],
         },
-        hand: hand,
     }
 }
 
@@ -91,16 +70,12 @@ fn store_numbers(finished: u16, signal: u16, mask: u8, panel: &mut [u8])
     store_mask(mask, panel);
 }
 
-// The values in hand, each written into the bytes of its signal.
-fn store_hand(hand: &[u8], panel: &mut [u8])
-    requires { ⌜ (length (now hand) ≡ 4097) × (length (now panel) ≡ panelLength) ⌝ }
-    ensures { λ _. ⌜ now (panel .exit) ≡ handStored (now (hand .entry)) 4096 (now (panel .entry)) ⌝ }
+// A value in hand, written into the bytes of its signal.
+fn store_hand(signal: usize, value: u8, panel: &mut [u8])
+    requires { ⌜ (length (now panel) ≡ panelLength) × (signal ≤ 4096) ⌝ }
+    ensures { λ _. ⌜ now (panel .exit) ≡ set (now (panel .entry)) (10 * signal + 7) value ⌝ }
 {
-    let mut s: usize = 0;
-    while s < 4096 {
-        panel[10 * s + 17] = hand[s + 1];
-        s += 1;
-    }
+    panel[10 * signal + 7] = value;
 }
 
 // A signal of the network: 1 to N.
@@ -126,50 +101,18 @@ fn is_input(panel: &[u8], signal: u32) -> bool
 }
 
 impl Session {
-    // The session written into a panel: N, P, C and the signals' other numbers stay.
+    // The session written into a panel: N, P, C and the signals' numbers, which have the values in hand, stay.
     pub fn encode(self, panel: &mut [u8])
         requires { ⌜ length (now panel) ≡ panelLength ⌝ }
-        ensures { λ _. ⌜ now (panel .exit) ≡ withHead (headOf self) (now (panel .entry)) ⌝ }
+        ensures { λ _. ⌜ now (panel .exit) ≡ withHead (headOf self (now (panel .entry))) (now (panel .entry)) ⌝ }
     {
-        let finished = self.finished.0;
-        let signal = self.watch.signal;
-        let mask = self.watch.mask;
-        store_numbers(finished, signal, mask, panel);
-        store_hand(&self.hand, panel);
+        store_numbers(self.finished.0, self.watch.signal, self.watch.mask, panel);
     }
 
-    // The same, where the panel has the values in hand already: the cycles finished and the watch alone.
-    pub fn encode_numbers(self, panel: &mut [u8])
-        requires { ⌜ length (now panel) ≡ panelLength ⌝ }
-        requires { ⌜ ((s : ℕ) → 1 ≤ s → s ≤ 4096 → handIn (now panel) s ≡ headOf self .hand s) ⌝ }
-        ensures { λ _. ⌜ now (panel .exit) ≡ withHead (headOf self) (now (panel .entry)) ⌝ }
-    {
-        let finished = self.finished.0;
-        let signal = self.watch.signal;
-        let mask = self.watch.mask;
-        store_numbers(finished, signal, mask, panel);
-    }
-
-    // The value in hand of a signal, replaced.
-    fn with_value(self, signal: usize, value: u8) -> Session
-        requires { ⌜ signal ≤ 4096 ⌝ }
-        ensures { λ r. ⌜ headOf r ≡ withValue (headOf self) signal value ⌝ }
-    {
-        let finished = self.finished;
-        let watch = self.watch;
-        let mut hand = self.hand;
-        hand[signal] = value;
-        Session {
-            finished: finished,
-            watch: watch,
-            hand: hand,
-        }
-    }
-
-    // "Set an input for the next cycle": its value in hand is replaced.
-    pub fn set(self, panel: &[u8], input: u32, value: u32) -> Told
+    // "Set an input for the next cycle": its value in hand is replaced in the panel, and no other byte. Refused, none is.
+    pub fn set(self, panel: &mut [u8], input: u32, value: u32) -> Told
         requires { ⌜ (length (now panel) ≡ panelLength) × (signalsIn (now panel) ≤ 4096) ⌝ }
-        ensures { λ r. ⌜ ((program memory : List ℕ) → Tells (commanded (now (panel .entry)) program memory (headOf self) (setting input value)) r) ⌝ }
+        ensures { λ r. ⌜ ((program memory : List ℕ) → Tells (commanded (now (panel .entry)) program memory (headOf self (now (panel .entry))) (setting input value)) r (now (panel .entry)) (now (panel .exit))) ⌝ }
     {
         let known = is_input(panel, input);
         if !known {
@@ -184,8 +127,9 @@ impl Session {
                 answer: CallAnswer::NoSuchValue(value),
             };
         }
+        store_hand(input as usize, value as u8, panel);
         Told {
-            session: self.with_value(input as usize, value as u8),
+            session: self,
             answer: CallAnswer::Done,
         }
     }
@@ -193,7 +137,7 @@ impl Session {
     // "set the one watch (signal, mask 0 to 15 ..)"
     pub fn watch(self, panel: &[u8], signal: u32, mask: u32) -> Told
         requires { ⌜ (length (now panel) ≡ panelLength) × (signalsIn (now panel) ≤ 4096) ⌝ }
-        ensures { λ r. ⌜ ((program memory : List ℕ) → Tells (commanded (now (panel .entry)) program memory (headOf self) (watching signal mask)) r) ⌝ }
+        ensures { λ r. ⌜ ((program memory : List ℕ) → Tells (commanded (now (panel .entry)) program memory (headOf self (now (panel .entry))) (watching signal mask)) r (now (panel .entry)) (now (panel .entry))) ⌝ }
     {
         if !is_signal(panel, signal) {
             return Told {
@@ -208,16 +152,14 @@ impl Session {
             };
         }
         let finished = self.finished;
-        let hand = self.hand;
         let watched = signal as u16;
         Told {
             session: Session {
-                finished: finished,
+                finished,
                 watch: Watch {
                     signal: watched,
                     mask: mask as u8,
                 },
-                hand: hand,
             },
             answer: CallAnswer::Done,
         }
@@ -228,7 +170,7 @@ impl Session {
         requires { ⌜ (length (now panel) ≡ panelLength) × (signalsIn (now panel) ≤ 4096) ⌝ }
         requires { ⌜ ((s : ℕ) → 1 ≤ s → s ≤ signalsIn (now panel) → processorIn (now panel) s < 16) ⌝ }
         requires { ⌜ MemoryBytes (now memory) ⌝ }
-        ensures { λ r. ⌜ ((program : List ℕ) → Tells (commanded (now (panel .entry)) program (now (memory .entry)) (headOf self) (reading signal)) r) ⌝ }
+        ensures { λ r. ⌜ ((program : List ℕ) → Tells (commanded (now (panel .entry)) program (now (memory .entry)) (headOf self (now (panel .entry))) (reading signal)) r (now (panel .entry)) (now (panel .entry))) ⌝ }
     {
         if !is_signal(panel, signal) {
             return Told {
@@ -246,29 +188,26 @@ impl Session {
     // "run k cycles": "It answers the cycles done and whether it stopped".
     pub fn run(self, panel: &[u8], program: &[u8], memory: &mut [u8], cycles: u32) -> Told
         requires { ⌜ Tables (now panel) (now program) ⌝ }
-        requires { ⌜ Watching (now panel) ⌝ }
+        requires { ⌜ Watching (now panel) (watchOf (self .watch)) ⌝ }
         requires { ⌜ MemoryBytes (now memory) ⌝ }
-        requires { ⌜ headOf self ≡ headIn (now panel) ⌝ }
-        ensures { λ r. ⌜ Tells (commanded (now (panel .entry)) (now (program .entry)) (now (memory .entry)) (headOf self) (running cycles)) r ⌝ }
-        ensures { λ r. ⌜ now (memory .exit) ≡ withMemory (processorsIn (now (panel .entry))) (slotsIn (now (panel .entry))) (commanded (now (panel .entry)) (now (program .entry)) (now (memory .entry)) (headOf self) (running cycles) .state) (now (memory .entry)) ⌝ }
+        ensures { λ r. ⌜ Tells (commanded (now (panel .entry)) (now (program .entry)) (now (memory .entry)) (headOf self (now (panel .entry))) (running cycles)) r (now (panel .entry)) (now (panel .entry)) ⌝ }
+        ensures { λ r. ⌜ now (memory .exit) ≡ withMemory (processorsIn (now (panel .entry))) (slotsIn (now (panel .entry))) (commanded (now (panel .entry)) (now (program .entry)) (now (memory .entry)) (headOf self (now (panel .entry))) (running cycles) .state) (now (memory .entry)) ⌝ }
     {
         let finished = self.finished.0;
+        let watch = self.watch;
         if 65535 - (finished as u32) < cycles {
             return Told {
                 session: self,
                 answer: CallAnswer::TooManyCycles(finished),
             };
         }
-        let ran = machine_run::run(panel, program, memory, Cycle(cycles as u16));
+        let ran = machine_run::run(panel, program, memory, watch, Cycle(cycles as u16));
         let done = ran.done.0;
         let stopped = ran.stopped;
-        let watch = self.watch;
-        let hand = self.hand;
         Told {
             session: Session {
                 finished: Cycle(finished + done),
-                watch: watch,
-                hand: hand,
+                watch,
             },
             answer: CallAnswer::Ran(done, stopped),
         }

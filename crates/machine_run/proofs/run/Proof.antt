@@ -1,11 +1,11 @@
 -- The invariant: the memory holds what the cycles done left, and none of them showed a watched value.
-use Prim.Native.Nat.{ℕ, _≤_, _<_, _-_, _+_}
-use mathlib.Core.Path.{_≡_, _∙_, sym, subst}
+use Prim.Native.Nat.{_≤_, _-_, _+_}
+use mathlib.Core.Path.{_≡_, _∙_}
 use Rattle.model.specs.Session.{ticks, watched}
 use Rattle.buffers_memory.specs.Memory.{memoryOf, within, withMemory, MemoryBytes}
 use Rattle.buffers_memory.proofs.Written.{bytes-written}
-use Rattle.buffers_tables.specs.Panel.{processorsIn, slotsIn, watchedIn, maskIn, processorIn}
-use Rattle.machine_run.specs.Running.{cycleIn, watchedValue}
+use Rattle.buffers_tables.specs.Panel.{processorsIn, slotsIn}
+use Rattle.machine_run.specs.Running.{cycleIn, valueIn, watchOf}
 use Rattle.machine_run.proofs.Cycles.{QuietTo}
 use Rattle.machine_run.proofs.Tables.{none-done, one-more, told, still-quiet, stopped-run, whole-run}
 use borrow.Author.Needs.{needs}
@@ -17,7 +17,7 @@ abbrev Inv-loop : tie.InvT-loop
 Inv-loop panel program memory₀ cycles processors slots signal mask k done₀ memory done =
     (done ≤ k) × MemoryBytes memory
     × (memory ≡ withMemory (processorsIn panel) (slotsIn panel) (ticks (cycleIn panel program) done (memoryOf memory₀)) memory₀)
-    × QuietTo (cycleIn panel program) (λ w. watched (maskIn panel) (watchedValue panel w)) (memoryOf memory₀) done
+    × QuietTo (cycleIn panel program) (λ w. watched mask (valueIn panel w signal)) (memoryOf memory₀) done
 
 abbrev μ-loop : tie.MeasureT-loop
 μ-loop panel program memory₀ cycles processors slots signal mask k done₀ memory done = k - done
@@ -25,12 +25,11 @@ abbrev μ-loop : tie.MeasureT-loop
 -- from the loop back to the start
 abbrev start-of : tie.At-loop Inv-loop μ-loop → tie.Start Inv-loop μ-loop
 start-of loop =
-    let read = loop .before .before in
-    read .before .before .before .before .before .before .before
+    loop .before .before .before .before .before .before .before
 
 loop-holds : tie.Need-loop-holds Inv-loop μ-loop
 loop-holds c =
-    let start = c .before .before .before .before .before .before .before .before in
+    let start = c .before .before .before .before .before .before in
     (omega arith, start .pre .1 .1, none-done (start .pre .0) _ (start .pre .1 .1 .size), λ i a b. absurd (omega arith))
 
 value-of-requires : tie.Need-value-of-requires Inv-loop μ-loop
@@ -38,10 +37,8 @@ value-of-requires c κs =
     let loop = c .before .before .before .before .before .before in
     let start = start-of loop in
     let panel = start .args .panel .now in
-    let watch = start .pre .1 .0 in
-    let e = loop .before .before .word-at2 .ensures in
-    let low : processorIn panel (watchedIn panel) < 16 = omega (arith, watch .processor-low, start .pre .0 .processors-high) in (
-      (start .pre .0 .panel-size, omega (arith, e, watch .signal-high), subst (λ (x : ℕ). processorIn panel x < 16) (sym e) low),
+    let watch = start .pre .1 .0 in (
+      (start .pre .0 .panel-size, watch .signal-high, omega (arith, watch .processor-low, start .pre .0 .processors-high)),
       bytes-written (within (processorsIn panel) (slotsIn panel)) _ (loop .loop .memory) _ (loop .loop .inv .1) (c .before .before .before .run-cycle .ensures),
     )
 
@@ -53,8 +50,8 @@ returns c =
     let t = start .pre .0 in
     let done = loop .loop .done in
     let next = one-more t _ done (loop .loop .inv .2) (ran .run-cycle .ensures) in
-    let shown = told t _ (start .pre .1 .0) (done + 1) (loop .before .before .word-at2 .ensures) next (c .before .before .value-of .ensures) (c .before .shows .ensures) in
-    stopped-run t _ _ done (omega arith) (loop .loop .inv .3) next (shown ∙ c .if1 .taken)
+    let shown = told t _ (watchOf (start .args .watch)) (start .pre .1 .0) (done + 1) next (c .before .before .value-of .ensures) (c .before .shows .ensures) in
+    stopped-run t _ (watchOf (start .args .watch)) _ done (omega arith) (loop .loop .inv .3) next (shown ∙ c .if1 .taken)
 
 loop-again : tie.Need-loop-again Inv-loop μ-loop
 loop-again c =
@@ -65,8 +62,8 @@ loop-again c =
     let panel = start .args .panel .now in
     let done = loop .loop .done in
     let next = one-more t _ done (loop .loop .inv .2) (ran .run-cycle .ensures) in
-    let shown = told t _ (start .pre .1 .0) (done + 1) (loop .before .before .word-at2 .ensures) next (c .before .before .value-of .ensures) (c .before .shows .ensures) in
-    (omega arith, bytes-written (within (processorsIn panel) (slotsIn panel)) _ (start .args .memory .now) _ (start .pre .1 .1) next, next, still-quiet t _ done (loop .loop .inv .3) (shown ∙ c .if1 .left))
+    let shown = told t _ (watchOf (start .args .watch)) (start .pre .1 .0) (done + 1) next (c .before .before .value-of .ensures) (c .before .shows .ensures) in
+    (omega arith, bytes-written (within (processorsIn panel) (slotsIn panel)) _ (start .args .memory .now) _ (start .pre .1 .1) next, next, still-quiet t _ (watchOf (start .args .watch)) done (loop .loop .inv .3) (shown ∙ c .if1 .left))
 
 returns-2 : tie.Need-returns-2 Inv-loop μ-loop
 returns-2 c =
@@ -74,7 +71,7 @@ returns-2 c =
     let start = start-of loop in
     let i = loop .loop .inv in
     let e : loop .loop .done ≡ start .args .cycles .0 = omega arith in
-    whole-run (start .pre .0) _ _ (λ j a b. i .3 j a (omega arith)) (rw e at (i .2))
+    whole-run (start .pre .0) _ (watchOf (start .args .watch)) _ (λ j a b. i .3 j a (omega arith)) (rw e at (i .2))
 
 pub run-spec : {M : Type 1} → statement M
 run-spec =
@@ -86,8 +83,6 @@ run-spec =
     (λ c κs. search needs)
     (λ c. search needs)
     (λ c κs. search needs)
-    (λ c κs. search needs)
-    (λ c. search needs)
     loop-holds
     (λ c κs. search needs)
     (λ c. search needs)

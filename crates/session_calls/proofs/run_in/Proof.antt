@@ -1,8 +1,9 @@
 -- `run_in`: decoded, run and encoded, the panel has the head of the outcome, and the memory its state.
-use mathlib.Core.Path.{_∙_, ap}
+use mathlib.Core.Path.{sym, subst, _∙_, ap}
 use Rattle.model.specs.Session.{Head, run}
 use Rattle.buffers_memory.specs.Memory.{withMemory}
 use Rattle.buffers_tables.specs.Panel.{processorsIn, slotsIn}
+use Rattle.machine_run.specs.Running.{Watching}
 use Rattle.session_state.specs.Commands.{commanded}
 use Rattle.session_calls.proofs.Replies.{writes}
 use borrow.Author.Needs.{needs}
@@ -19,9 +20,17 @@ returns c =
     let program = s .args .program .now in
     let memory = s .args .memory .now in
     let d = decoded .decode .ensures in
-    (writes panel program memory _ _ (d .0) (d .1) _ (done .run .ensures .0) _ _ (told .tell .ensures .0) (told .tell .ensures .1), done .run .ensures .1 ∙ ap (λ (h : Head). withMemory (processorsIn panel) (slotsIn panel) (commanded panel program memory h (run (s .args .cycles)) .state) memory) (d .0))
+    (writes panel program memory _ _ (d .0) (d .1) _ _ (done .run .ensures .0) _ _ (told .tell .ensures .0) (told .tell .ensures .1), done .run .ensures .1 ∙ ap (λ (h : Head). withMemory (processorsIn panel) (slotsIn panel) (commanded panel program memory h (run (s .args .cycles)) .state) memory) (d .0))
+
+-- the watch that was decoded is the panel's
+run-requires : tie.Need-run-requires
+run-requires c κs =
+    let decoded = c .before .before in
+    let s = decoded .before .before .before .before .before in
+    let watch = ap (λ (h : Head). h .watch) (decoded .decode .ensures .0) in
+    (s .pre .0, (subst (Watching (s .args .panel .now)) (sym watch) (s .pre .1 .0), s .pre .1 .1))
 
 pub run-in-spec : {M : Type 1} → statement M
 run-in-spec =
     tie.close
-    (tie.spec (λ c κs. search needs) (λ c κs. search needs) (λ c κs. search needs) (λ c. search needs) (λ c. search needs) returns)
+    (tie.spec (λ c κs. search needs) run-requires (λ c κs. search needs) (λ c. search needs) (λ c. search needs) returns)

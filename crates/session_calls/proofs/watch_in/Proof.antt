@@ -11,7 +11,7 @@ returns c =
     let decoded = done .before .before in
     let s = decoded .before .before .before in
     let d = decoded .decode .ensures in
-    λ program memory. writes (s .args .panel .now) program memory _ _ (d .0) (d .1) _ (done .watch .ensures program memory) _ _ (told .tell .ensures .0) (told .tell .ensures .1)
+    λ program memory. writes (s .args .panel .now) program memory _ _ (d .0) (d .1) _ _ (done .watch .ensures program memory) _ _ (told .tell .ensures .0) (told .tell .ensures .1)
 
 pub watch-in-spec : {M : Type 1} → statement M
 watch-in-spec =

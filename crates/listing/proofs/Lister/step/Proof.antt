@@ -1,15 +1,14 @@
 -- Each of the three ways to make a piece, by the number of pieces given.
 use mathlib.Core.Path.{refl, sym, _∙_}
 use native.Mathlib.Omega.{arith}
-use borrow.Author.Tests.{eqb-true, not-false}
 use Rattle.writing.proofs.Writing.{length-line}
-use Rattle.listing.proofs.Standing.{right-signals, right-processor, right-memory, stands-stimulus, stands-few, stands-end, stands-pieces, gives-last, at-count, by-count, gives-zeroth, later-ready, later-unfed, later-right, gives-later}
+use Rattle.listing.proofs.Standing.{right-signals, right-processor, right-memory, stands-stimulus, stands-few, stands-end, stands-pieces, gives-last, at-count, by-count, gives-zeroth, later-ready, later-right, gives-later}
 use borrow.Author.Needs.{needs}
 use Rattle.listing.proofs.Lister.step.Statement.{statement}
 use Rattle.listing.proofs.Lister.step.Tie as tie
 
-add-t29 : tie.Need-add-t29
-add-t29 c =
+add-t28 : tie.Need-add-t28
+add-t28 c =
     let s = c .before .before .before .before .before .before .before .before .before .before .before .before .before .before .before in
     omega (arith, stands-end (s .pre .0 .stands), stands-pieces (s .pre .0 .stands))
 
@@ -36,48 +35,48 @@ take-settings-requires c κs =
     let st = s .pre .0 .stands in
     (stands-stimulus st, (stands-few st, (st .right .sizes .panel-size, right-signals (st .right))))
 
+-- the entry, from where the settings were taken
+abbrev entry : tie.After-take-settings → tie.Start
+entry c = let start = c .before .before .before .before .before .before .before .before .before .before .before .before .before in start
+
 run-one-requires : tie.Need-run-one-requires
 run-one-requires c κs =
     let settled = c .before .before .before .before .before .before in
     let fed = settled .take-settings .ensures in
     let later = settled .before .before .if2 .left in
-    let chosen = settled .before .before .before in
-    let more = chosen .if1 .left in
-    let s = chosen .before .before .before .before .before .before .before .before .before .before in
-    let st = s .pre .0 .stands in
-    (later-ready _ (at-count st) later more (fed .0) (fed .1), λ e. later-unfed _ (at-count st) later more (fed .0) (fed .1) (eqb-true _ _ (not-false _ e)))
+    let more = settled .before .before .before .if1 .left in
+    later-ready _ (at-count (entry settled .pre .0 .stands)) later more (fed .0) (fed .1 .0) (fed .1 .1)
 
 write-changes-requires-2 : tie.Need-write-changes-requires-2
 write-changes-requires-2 c κs =
-    let run = c .before .before .before .before .before .before .before .before in
-    let ran = run .run-one .ensures in
+    let run = c .before .before .before .before .before .before in
     let settled = run .before .before .before .before .before .before .before in
     let fed = settled .take-settings .ensures in
     let later = settled .before .before .if2 .left in
-    let chosen = settled .before .before .before in
-    let more = chosen .if1 .left in
-    let s = chosen .before .before .before .before .before .before .before .before .before .before in
+    let more = settled .before .before .before .if1 .left in
+    let s = entry settled in
     let st = s .pre .0 .stands in
-    let right = later-right _ (at-count st) later more (fed .0) (fed .1) _ (ran .1 .1) in
-    rw (ran .1 .0) ((right .sizes .panel-size, right-signals right), (right-processor right, (right-memory right, (st .shown-size, s .pre .1))))
+    let right = later-right _ _ (at-count st) later more (fed .0) (fed .1 .0) (fed .1 .1) (run .run-one .ensures .1) in
+    ((right .sizes .panel-size, right-signals right), (right-processor right, (right-memory right, (st .shown-size, s .pre .1))))
 
-add-t22 : tie.Need-add-t22
-add-t22 c =
-    let s = c .before .before .before .before .before .before .before .before .before .before .before .before .before .before .before .before .before .before .before .before .before .before .before .before .before .before .before .before .before .before .before .before .before in
+add-t21 : tie.Need-add-t21
+add-t21 c =
+    let run = c .before .before .before .before .before .before .before .before .before .before .before in
+    let s = entry (run .before .before .before .before .before .before .before) in
     omega (arith, stands-end (s .pre .0 .stands), stands-pieces (s .pre .0 .stands))
 
 returns-3 : tie.Need-returns-3
 returns-3 c = λ files k s.
     let written = c .before .before .before .before in
     let w = written .write-changes2 .ensures in
-    let run = written .before .before .before .before .before .before .before .before .before in
+    let run = written .before .before .before .before .before .before .before in
     let ran = run .run-one .ensures in
     let settled = run .before .before .before .before .before .before .before in
     let fed = settled .take-settings .ensures in
     let later = settled .before .before .if2 .left in
     let more = settled .before .before .before .if1 .left in
     by-count s
-    (gives-later _ (at-count s) later more (fed .0) (fed .1) _ (ran .1 .0) _ (ran .1 .1) _ _ _ _ (w .0) (w .1 .0) (w .1 .1) (ran .0) refl refl refl)
+    (gives-later _ _ (at-count s) later more (fed .0) (fed .1 .0) (fed .1 .1) (ran .1) _ _ _ _ (w .0) (w .1 .0) (w .1 .1) (ran .0) refl refl refl)
 
 pub step-spec : {M : Type 1} → statement M
 step-spec =
@@ -86,7 +85,7 @@ step-spec =
     (λ c. search needs)
     (λ c. search needs)
     (λ c κs. search needs)
-    add-t29
+    add-t28
     (λ c. search needs)
     returns
     (λ c. search needs)
@@ -99,7 +98,7 @@ step-spec =
     take-settings-requires
     run-one-requires
     write-changes-requires-2
-    add-t22
+    add-t21
     (λ c. search needs)
     (λ c. search needs)
     (λ c. search needs)

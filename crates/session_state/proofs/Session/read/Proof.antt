@@ -2,9 +2,10 @@
 use mathlib.Core.Path.{refl, ap}
 use Prim.Native.Nat.{ℕ}
 use Rattle.model.specs.Session.{value}
-use Rattle.session_state.specs.Header.{headOf}
+use Rattle.session_state.specs.Carried.{headOf}
 use Rattle.logic.proofs.Judged.{fails, passes}
 use Rattle.session_state.proofs.Commands.{signal-low, signal-high, read-no-signal, read-done, tells}
+use Rattle.session_state.proofs.Hands.{own-hand}
 use native.Mathlib.Omega.{arith}
 use borrow.Author.Needs.{needs}
 use Rattle.session_state.proofs.Session.read.Statement.{statement}
@@ -14,9 +15,9 @@ returns : tie.Need-returns
 returns c =
     let s = c .before .before .before .before in
     λ program.
-    tells _ _ _
-    (read-no-signal (s .args .panel .now) program (s .args .memory .now) (headOf (s .args .self)) (s .args .signal) (fails _ _ (c .before .is-signal .ensures) (c .if1 .taken)))
-    refl refl
+    tells _ _ _ _ _
+    (read-no-signal (s .args .panel .now) program (s .args .memory .now) (headOf (s .args .self) (s .args .panel .now)) (s .args .signal) (fails _ _ (c .before .is-signal .ensures) (c .if1 .taken)))
+    refl refl refl (own-hand _ (s .pre .0 .0))
 
 cast-value-of : tie.Need-cast-value-of
 cast-value-of c =
@@ -37,9 +38,9 @@ returns-2 : tie.Need-returns-2
 returns-2 c =
     let s = c .before .before .before .before .before in
     λ program.
-    tells _ _ _
-    (read-done (s .args .panel .now) program (s .args .memory .now) (headOf (s .args .self)) (s .args .signal) (passes _ _ (c .before .before .is-signal .ensures) (c .before .if1 .left)))
-    (ap (λ (x : ℕ). value x) (c .value-of .ensures)) refl
+    tells _ _ _ _ _
+    (read-done (s .args .panel .now) program (s .args .memory .now) (headOf (s .args .self) (s .args .panel .now)) (s .args .signal) (passes _ _ (c .before .before .is-signal .ensures) (c .before .if1 .left)))
+    (ap (λ (x : ℕ). value x) (c .value-of .ensures)) refl refl (own-hand _ (s .pre .0 .0))
 
 pub read-spec : {M : Type 1} → statement M
 read-spec =
