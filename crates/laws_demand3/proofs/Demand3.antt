@@ -1,12 +1,10 @@
 -- Demand 3 on bytes, for accepted files: over every trace of calls from the opening, and without a trace by folding the calls' definition.
 use Prim.Native.Nat.{ℕ, _≤_}
 use mathlib.Core.Path.{_≡_, refl, sym, subst, _∙_, ap}
-use mathlib.Core.Bool.{Bool, true, false, false≢true}
+use mathlib.Core.Bool.{Bool, true, false}
 use mathlib.Core.List.{List, [], _∷_}
 use native.Mathlib.Omega.{arith}
-use lib.Dec.{eqb}
-use borrow.Author.Tests.{eqb-true}
-use Rattle.logic.specs.Test.{_and_}
+use lib.ListN.{length}
 use Rattle.logic.specs.Listed.{listed}
 use Rattle.logic.proofs.Listed.{listed-length}
 use Rattle.model.specs.Refusal.{Check, pass, first, unless}
@@ -22,6 +20,7 @@ use Rattle.model.specs.Acceptance.{panelLimit, networkOf, moduleOfFiles, givenO
 use Rattle.model.specs.Demands.{Trace, end, next, Demand3}
 use Rattle.model.proofs.Machine.{Near}
 use Rattle.model.proofs.Session.{Like}
+use Rattle.model.proofs.Lengths.{lengths-same}
 use Rattle.model.proofs.Keeping.{kept-table, kept-near, keeps}
 use Rattle.model.proofs.Value.{start-input}
 use Rattle.model.proofs.Checked.{files-checked, checked-size}
@@ -47,27 +46,10 @@ use Rattle.session_calls.proofs.Judged.{same-lengths}
 use Rattle.session_calls.proofs.Replies.{reply-answer}
 use Rattle.laws_kept.proofs.Heads.{with-head-finished, with-head-hand, with-head-watched, with-head-mask}
 use Rattle.laws_kept.proofs.Replies.{reply-lengths, reply-ranged, reply-holding}
-use Rattle.laws_demand3.specs.Lending.{working, openedBy, Opens, Meets, Answered, own, other, Post, Throughout, EveryCall, numberOf, Every32}
+use Rattle.laws_demand3.specs.Lending.{working, openedBy, Opens, Meets, Answered, own, other, Post, Throughout, EveryCall, numberOf, EveryCallable}
 use Rattle.laws_demand3.proofs.Chained.{Good, meets}
 use Rattle.laws_demand3.proofs.Refusals.{Not44, command-44}
 use Rattle.laws_demand3.proofs.Telling.{reply-few, own-taken, wrong-lent, other-bits, other-taken, other-same}
-
--- equal lengths
-lengths-equal : (a b : Lengths) → a .panel ≡ b .panel → a .program ≡ b .program → a .memory ≡ b .memory → a ≡ b
-lengths-equal a b p q r =
-    ap (λ (x : ℕ). record { panel = x; program = a .program; memory = a .memory }) p
-    ∙ ap (λ (x : ℕ). record { panel = b .panel; program = x; memory = a .memory }) q
-    ∙ ap (λ (x : ℕ). record { panel = b .panel; program = b .program; memory = x }) r
-
-lengths-same : (a b : Lengths) → sameLengths a b ≡ true → a ≡ b
-unfolding sameLengths _and_
-lengths-same a b t = go (eqb (a .panel) (b .panel)) refl (eqb (a .program) (b .program)) refl t
-  where
-    go : (x : Bool) → eqb (a .panel) (b .panel) ≡ x → (y : Bool) → eqb (a .program) (b .program) ≡ y
-        → (x and (y and eqb (a .memory) (b .memory))) ≡ true → a ≡ b
-    go true p true q r = lengths-equal a b (eqb-true (a .panel) (b .panel) p) (eqb-true (a .program) (b .program) q) (eqb-true (a .memory) (b .memory) r)
-    go true p false q r = absurd (false≢true r)
-    go false p y q r = absurd (false≢true r)
 
 -- a head written into the session's panel is read back
 head-back : (f : Network) (g : Module) (h : Head) (b : Buffers) → Good f g b → Like f (headIn (withHead h (b .panel))) h
@@ -156,40 +138,48 @@ module _ (f : Network) (g : Module) where
           other-bits lent (c .call) wrong (p .bits) left met ∙ ap answerBits (sym (p .taken ∙ other-taken lent (c .call) wrong (p .bits) left met))
 
   -- the calls of a list, one after the other, each by its definition; a call with a wrong length is lent zeros of that length
-  zeros : Lengths → Buffers
-  zeros l = record { panel = listed (l .panel) (λ a. 0); program = listed (l .program) (λ a. 0); memory = listed (l .memory) (λ a. 0) }
+  lending : (l : Lengths) → length l ≡ length fixed → Buffers
+  lending [] e = absurd (omega arith)
+  lending (a ∷ []) e = absurd (omega arith)
+  lending (a ∷ b ∷ []) e = absurd (omega arith)
+  lending (a ∷ b ∷ c ∷ []) e = buffersOf (listed a (λ k. 0)) (listed b (λ k. 0)) (listed c (λ k. 0))
+  lending (a ∷ b ∷ c ∷ d ∷ l) e = absurd (omega arith)
 
-  zeros-lengths : (l : Lengths) → lengthsOf (zeros l) ≡ l
-  unfolding zeros
-  zeros-lengths l = lengths-equal (lengthsOf (zeros l)) l (listed-length (l .panel) (λ a. 0)) (listed-length (l .program) (λ a. 0)) (listed-length (l .memory) (λ a. 0))
+  lending-lengths : (l : Lengths) (e : length l ≡ length fixed) → lengthsOf (lending l e) ≡ l
+  unfolding lending
+  lending-lengths [] e = absurd (omega arith)
+  lending-lengths (a ∷ []) e = absurd (omega arith)
+  lending-lengths (a ∷ b ∷ []) e = absurd (omega arith)
+  lending-lengths (a ∷ b ∷ c ∷ []) e = rw (listed-length a (λ k. 0), listed-length b (λ k. 0), listed-length c (λ k. 0))
+  lending-lengths (a ∷ b ∷ c ∷ d ∷ l) e = absurd (omega arith)
 
   defined : (b : Buffers) (c : Call) → Meets b c (answerBits (reply b c .answer)) (reply b c .buffers)
   defined b c = record { answer = refl; leaves = refl }
 
-  pub folded : (b : Buffers) → Good f g b → (cs : List Lent) → Every32 cs → Trace Post b cs
-  unfolding Every32
-  folded b good [] numbers = end
-  folded b good (c ∷ cs) numbers =
-      go (folded (reply b (c .call) .buffers) (reply-stays b (c .call) good) cs (numbers .1)) (folded b good cs (numbers .1)) (sameLengths (c .lengths) fixed) refl
+  pub folded : (b : Buffers) → Good f g b → (cs : List Lent) → EveryCallable cs → Trace Post b cs
+  unfolding EveryCallable
+  folded b good [] callable = end
+  folded b good (c ∷ cs) callable =
+      go (folded (reply b (c .call) .buffers) (reply-stays b (c .call) good) cs (callable .1)) (folded b good cs (callable .1)) (sameLengths (c .lengths) fixed) refl
     where
       go : Trace Post (reply b (c .call) .buffers) cs → Trace Post b cs → (t : Bool) → sameLengths (c .lengths) fixed ≡ t → Trace Post b (c ∷ cs)
       go rest same true e =
           next _ (reply b (c .call) .buffers)
           (record {
             bits = answerBits (reply b (c .call) .answer);
-            numbers = numbers .0;
+            numbers = callable .0 .numbers;
             taken = refl;
             answered = own (lengths-same (lengthsOf b) fixed (good .lengths) ∙ sym (lengths-same (c .lengths) fixed e)) (defined b (c .call));
           })
           rest
       go rest same false e =
-          let lent = zeros (c .lengths) in
+          let lent = lending (c .lengths) (callable .0 .buffers) in
           next _ b
           (record {
             bits = answerBits (reply lent (c .call) .answer);
-            numbers = numbers .0;
+            numbers = callable .0 .numbers;
             taken = refl;
-            answered = other lent (reply lent (c .call) .buffers) (λ x. b) (zeros-lengths (c .lengths)) e (defined lent (c .call)) refl refl;
+            answered = other lent (reply lent (c .call) .buffers) (λ x. b) (lending-lengths (c .lengths) (callable .0 .buffers)) e (defined lent (c .call)) refl refl;
           })
           same
 
@@ -304,6 +294,6 @@ module _ {limit : ℕ} (few : limit ≤ panelLimit) (files : Files) (accepted : 
     session-bits t = every-call n m (λ c bits a. bits ≡ answerBits a) (answer-bits n m) left-good t
 
   -- The same without a trace: the calls' definition folded over any list of calls, from the opened files.
-  pub folded-demand-3 : (cs : List Lent) (numbers : Every32 cs) (table : List (ℕ → ℕ) → ℕ → ℕ) → FollowsAlways n (givenOf files) table
-      → Demand3 Post working fixed n m (givenOf files) table (folded n m opened opened-good cs numbers) []
-  folded-demand-3 cs numbers table follows = bytes-demand-3 opened-good table follows (folded n m opened opened-good cs numbers)
+  pub folded-demand-3 : (cs : List Lent) (callable : EveryCallable cs) (table : List (ℕ → ℕ) → ℕ → ℕ) → FollowsAlways n (givenOf files) table
+      → Demand3 Post working fixed n m (givenOf files) table (folded n m opened opened-good cs callable) []
+  folded-demand-3 cs callable table follows = bytes-demand-3 opened-good table follows (folded n m opened opened-good cs callable)

@@ -4,6 +4,7 @@ use Prim.Native.Nat.{ℕ, _<_}
 use mathlib.Core.Path.{_≡_}
 use mathlib.Core.Bool.{false}
 use mathlib.Core.List.{List, [], _∷_}
+use lib.ListN.{length}
 use Rattle.model.specs.Refusal.{Check}
 use Rattle.model.specs.Files.{Files}
 use Rattle.model.specs.Session.{Call, set, watch, read, run, Lent, sameLengths, Answer, refused, done, value, ran}
@@ -59,9 +60,14 @@ Has32 (watch s mask) = (s < 4294967296) × (mask < 4294967296)
 Has32 (read s) = s < 4294967296
 Has32 (run k) = k < 4294967296
 
-unfoldable pub Every32 : List Lent → Type 0
-Every32 [] = Unit
-Every32 (c ∷ cs) = Has32 (c .call) × Every32 cs
+-- C can make the call: it lends as many buffers as a call takes, and the numbers have 32 bits
+pub record Callable (c : Lent) : Type 0 where
+  pub buffers : length (c .lengths) ≡ length fixed
+  pub numbers : Has32 (c .call)
+
+unfoldable pub EveryCallable : List Lent → Type 0
+EveryCallable [] = Unit
+EveryCallable (c ∷ cs) = Callable c × EveryCallable cs
 
 -- A call of the list by its answer: what C takes out of the 64 bits.
 pub record Post (b : Buffers) (c : Lent) (a : Answer) (b′ : Buffers) : Type 0 where
