@@ -102,6 +102,11 @@ pub record Outcome (S : Type 0) : Type 0 where
   pub head : Head
   pub state : S
 
+-- a call's answer, and the buffers as it leaves them
+pub record Reply (Buffers : Type 0) : Type 0 where
+  pub answer : Answer
+  pub buffers : Buffers
+
 -- 41, 42, 43 (01, Refusals)
 unfoldable pub callCheck : Network → ℕ → Call → Check
 callCheck n finished (set s v) = first (unless (isSignal n s and eqb (n .kind s) input) 41 s) (unless (leb v 3) 42 v)
