@@ -26,6 +26,8 @@ module _ (I : Interface) (n : Network) (E : Engine) (decode : I .Buffers → Wor
   abbrev pub told : I .Buffers → Call → Outcome (E .State)
   told b c = command (I .fixed) n E (decode b .head) (decode b .state) c
 
+  -- On good buffers C takes the answer out of the bits (taken), and the call answers and leaves what the session does, on buffers that are
+  -- good again.
   pub record Serves : Type 0 where
     pub refuses : Refuses I
     pub lengths : (b : I .Buffers) → Good b → sameLengths (I .lengths b) (I .fixed) ≡ true
