@@ -1,7 +1,8 @@
 -- The lengths one by one, and all of them.
 use Prim.Native.Nat.{ℕ}
-use mathlib.Core.Path.{_≡_}
+use mathlib.Core.Path.{_≡_, refl}
 use mathlib.Core.Bool.{Bool, true, false}
+use mathlib.Core.List.{[], _∷_}
 use lib.Dec.{eqb}
 use borrow.Author.Tests.{eqb-true, eq-eqb, ne-eqb}
 use Rattle.logic.specs.Test.{_and_}
@@ -12,9 +13,14 @@ use Rattle.buffers_tables.specs.Panel.{panelLength}
 use Rattle.buffers_tables.specs.Program.{programLength}
 use Rattle.buffers_lengths.specs.Lengths.{fixed, Sizes}
 
+and-nothing : (t : Bool) → t ≡ t and true
+unfolding _and_
+and-nothing true = refl
+and-nothing false = refl
+
 module _ (a b c : ℕ) where
   abbrev same : Bool
-  same = sameLengths (record { panel = a; program = b; memory = c }) fixed
+  same = sameLengths (a ∷ b ∷ c ∷ []) fixed
 
   pub wrong-panel : (a ≡ panelLength → ⊥) → false ≡ same
   unfolding sameLengths _and_
@@ -26,7 +32,7 @@ module _ (a b c : ℕ) where
 
   pub by-memory : a ≡ panelLength → b ≡ programLength → eqb c memoryLength ≡ same
   unfolding sameLengths _and_
-  by-memory e f = rw (eq-eqb a panelLength e, eq-eqb b programLength f)
+  by-memory e f = rw (eq-eqb a panelLength e, eq-eqb b programLength f) (and-nothing (eqb c memoryLength))
 
   pub sizes-same : Sizes a b c → same ≡ true
   unfolding sameLengths _and_
@@ -38,5 +44,5 @@ module _ (a b c : ℕ) where
       record {
         panel-size = eqb-true _ _ (and-left _ _ e);
         program-size = eqb-true _ _ (and-left _ _ (and-right _ _ e));
-        memory-size = eqb-true _ _ (and-right _ _ (and-right _ _ e));
+        memory-size = eqb-true _ _ (and-left _ _ (and-right _ _ (and-right _ _ e)));
       }

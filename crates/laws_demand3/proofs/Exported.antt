@@ -1,20 +1,18 @@
 -- What the contracts of the functions that C calls promise is what demand 3 takes of a call. `Asked` and `Learnt` are what each
 -- function's `requires` asks and what its `ensures` tells a caller, handed on by its crate. They ask nothing; and for any references
--- lent, whatever is told of the result and of the buffers at the return is `Meets`, or `Opens`.
+-- lent, whatever is told of the result and of the buffers at the return is `Meets`, or `Opens`; a call that met its contract stands in a list
+-- of calls (`own-stands`, `other-stands` in laws_engine).
 use Prim.Native.Nat.{ℕ}
-use mathlib.Core.Path.{_≡_, refl, sym}
-use mathlib.Core.Bool.{false}
+use mathlib.Core.Path.{_≡_, sym}
 use contract.Lifetimes.{Lfts}
 use denote.Ref.{now}
 use denote.Triple.Clauses.{AtExit}
 use borrow.Fn.Kinds.{Dens, endedOf}
 use Rattle.model.specs.Files.{filesOf}
 use Rattle.model.specs.Acceptance.{panelLimit}
-use Rattle.model.specs.Session.{Call, Lent, sameLengths, set, watch, read, run}
+use Rattle.model.specs.Session.{Call, set, watch, read, run}
 use Rattle.session_answers.specs.Answers.{answerBits}
-use Rattle.session_answers.specs.Apart.{apart}
-use Rattle.buffers_lengths.specs.Lengths.{fixed}
-use Rattle.session_calls.specs.Reply.{Buffers, buffersOf, lengthsOf, reply}
+use Rattle.session_calls.specs.Reply.{Buffers, buffersOf, reply}
 use Rattle.cavundir_panel.proofs.cavundir_set.Kinds.{ps as set-ps, r as set-r}
 use Rattle.cavundir_panel.proofs.cavundir_set.Reads.{Asked as SetAsks, Learnt as SetTells}
 use Rattle.cavundir_panel.proofs.cavundir_watch.Kinds.{ps as watch-ps, r as watch-r}
@@ -25,22 +23,10 @@ use Rattle.cavundir_panel.proofs.cavundir_run.Kinds.{ps as run-ps, r as run-r}
 use Rattle.cavundir_panel.proofs.cavundir_run.Reads.{Asked as RunAsks, Learnt as RunTells}
 use Rattle.cavundir_panel.proofs.cavundir_open.Kinds.{ps as open-ps, r as open-r}
 use Rattle.cavundir_panel.proofs.cavundir_open.Reads.{Asked as OpenAsks, Learnt as OpenTells}
-use Rattle.laws_demand3.specs.Lending.{Opens, Meets, own, other, kindOf, Has32, Post}
+use Rattle.laws_engine.specs.Lending.{Meets}
+use Rattle.laws_demand3.specs.Lockstep.{lockstepCalls, Opens}
 
--- A call that met its contract stands in a list: lent the session's buffers, or others of which a length is wrong.
-module _ {lent left : Buffers} {c : Call} {bits : ℕ} (numbers : Has32 c) (met : Meets lent c bits left) where
-  abbrev called : Lent
-  called = record { lengths = lengthsOf lent; call = c }
-
-  pub own-stands : Post lent called (apart (kindOf c) bits) left
-  own-stands = record { bits = bits; numbers = numbers; taken = refl; answered = own refl met }
-
-  pub other-stands : sameLengths (lengthsOf lent) fixed ≡ false → (around : Buffers → Buffers)
-      → Post (around lent) called (apart (kindOf c) bits) (around left)
-  other-stands wrong around =
-      record { bits = bits; numbers = numbers; taken = refl; answered = other lent left around refl wrong met refl refl }
-
-meets : (b : Buffers) (c : Call) (bits : ℕ) (b′ : Buffers) → (bits ≡ answerBits (reply b c .answer)) × (reply b c .buffers ≡ b′) → Meets b c bits b′
+meets : (b : Buffers) (c : Call) (bits : ℕ) (b′ : Buffers) → (bits ≡ answerBits (reply b c .answer)) × (reply b c .buffers ≡ b′) → Meets lockstepCalls b c bits b′
 meets b c bits b′ (p, q) = record { answer = p; leaves = sym q }
 
 module _ (κs : Lfts 3) where
@@ -49,7 +35,7 @@ module _ (κs : Lfts 3) where
     set-asks-nothing = tt
 
     pub set-meets : (bits : ℕ) (left : AtExit (endedOf 3 set-ps set-r) κs) → SetTells κs a bits left
-        → Meets (buffersOf (now (a .0)) (now (a .1 .0)) (now (a .1 .1 .0))) (set (a .1 .1 .1 .0) (a .1 .1 .1 .1 .0)) bits
+        → Meets lockstepCalls (buffersOf (now (a .0)) (now (a .1 .0)) (now (a .1 .1 .0))) (set (a .1 .1 .1 .0) (a .1 .1 .1 .1 .0)) bits
         (buffersOf (now (left .0)) (now (a .1 .0)) (now (a .1 .1 .0)))
     set-meets bits left told = meets _ _ _ _ told
 
@@ -58,7 +44,7 @@ module _ (κs : Lfts 3) where
     watch-asks-nothing = tt
 
     pub watch-meets : (bits : ℕ) (left : AtExit (endedOf 3 watch-ps watch-r) κs) → WatchTells κs a bits left
-        → Meets (buffersOf (now (a .0)) (now (a .1 .0)) (now (a .1 .1 .0))) (watch (a .1 .1 .1 .0) (a .1 .1 .1 .1 .0)) bits
+        → Meets lockstepCalls (buffersOf (now (a .0)) (now (a .1 .0)) (now (a .1 .1 .0))) (watch (a .1 .1 .1 .0) (a .1 .1 .1 .1 .0)) bits
         (buffersOf (now (left .0)) (now (a .1 .0)) (now (a .1 .1 .0)))
     watch-meets bits left told = meets _ _ _ _ told
 
@@ -67,7 +53,7 @@ module _ (κs : Lfts 3) where
     read-asks-nothing = tt
 
     pub read-meets : (bits : ℕ) (left : AtExit (endedOf 3 read-ps read-r) κs) → ReadTells κs a bits left
-        → Meets (buffersOf (now (a .0)) (now (a .1 .0)) (now (a .1 .1 .0))) (read (a .1 .1 .1 .0)) bits
+        → Meets lockstepCalls (buffersOf (now (a .0)) (now (a .1 .0)) (now (a .1 .1 .0))) (read (a .1 .1 .1 .0)) bits
         (buffersOf (now (a .0)) (now (a .1 .0)) (now (a .1 .1 .0)))
     read-meets bits left told = meets _ _ _ _ told
 
@@ -76,7 +62,7 @@ module _ (κs : Lfts 3) where
     run-asks-nothing = tt
 
     pub run-meets : (bits : ℕ) (left : AtExit (endedOf 3 run-ps run-r) κs) → RunTells κs a bits left
-        → Meets (buffersOf (now (a .0)) (now (a .1 .0)) (now (a .1 .1 .0))) (run (a .1 .1 .1 .0)) bits
+        → Meets lockstepCalls (buffersOf (now (a .0)) (now (a .1 .0)) (now (a .1 .1 .0))) (run (a .1 .1 .1 .0)) bits
         (buffersOf (now (left .0)) (now (a .1 .0)) (now (left .1 .1 .0)))
     run-meets bits left told = meets _ _ _ _ told
 

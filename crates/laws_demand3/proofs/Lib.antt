@@ -1,7 +1,6 @@
 pub mod Meeting
-pub mod Refusals
 pub mod Telling
-pub mod Chained
+pub mod Serving
 pub mod Demand3
 pub mod Exported
 pub mod Cleared

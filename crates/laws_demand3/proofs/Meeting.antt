@@ -1,68 +1,22 @@
--- A call on buffers that hold the files' network and module answers as the session over the files' own machine, and leaves what that
--- session leaves: 40 and 44 aside, the two differ only in where they read the network and the module from.
+-- The machine in buffers that hold the files' network and module keeps step with the files' own machine: the two differ only in where they
+-- read the network and the module from, and do the same with a call.
 use Prim.Native.Nat.{ℕ}
-use mathlib.Core.Path.{_≡_, refl, sym, subst, _∙_, ap}
-use mathlib.Core.Bool.{Bool, true, false}
+use mathlib.Core.Path.{_≡_, sym, _∙_, ap}
 use mathlib.Core.List.{List}
-use lib.Dec.{eqb, leb}
-use Rattle.logic.specs.Test.{_and_}
-use Rattle.model.specs.Refusal.{Check, pass, fail, first, unless}
-use Rattle.model.specs.Network.{Network, Signal, input, isSignal}
+use Rattle.model.specs.Network.{Network, Signal}
 use Rattle.model.specs.Module.{Module, At}
 use Rattle.model.specs.Machine.{Memory}
-use Rattle.model.specs.Session.{Engine, lockstep, Head, Call, set, watch, read, run, Lent, sameLengths, Outcome, callCheck, lentCheck, running, perform, meet, outcome}
+use Rattle.model.specs.Session.{Engine, lockstep, Head, Call}
 use Rattle.model.proofs.Conditions.{Scheduled}
-use Rattle.model.proofs.Chains.{signal-true}
 use Rattle.model.proofs.Machine.{Near, near-refl, cycle-rows}
-use Rattle.model.proofs.Session.{Like, KeepStep, SameOutcome, outcome-alike}
-use Rattle.buffers_tables.specs.Panel.{watchedIn, processorIn, slotIn}
+use Rattle.model.proofs.Session.{KeepStep, SameOutcome}
+use Rattle.buffers_tables.specs.Panel.{processorIn, slotIn}
 use Rattle.buffers_tables.specs.Tables.{networkIn, moduleIn}
 use Rattle.buffers_tables.specs.Holding.{Holding}
-use Rattle.laws_values.proofs.Same.{near-trans, cycle-same}
-use Rattle.session_state.specs.Header.{headIn}
 use Rattle.buffers_lengths.specs.Lengths.{fixed}
+use Rattle.laws_values.proofs.Same.{near-trans, cycle-same}
+use Rattle.laws_engine.proofs.Networks.{command, commands-alike}
 
--- a call that is not refused does not ask for the network
-perform-same : (n f : Network) (E : Engine) (h : Head) (x : E .State) (c : Call) → perform fixed n E h x c ≡ perform fixed f E h x c
-unfolding perform running
-perform-same n f E h x (set s v) = refl
-perform-same n f E h x (watch s mask) = refl
-perform-same n f E h x (read s) = refl
-perform-same n f E h x (run k) = refl
-
-meet-same : (n f : Network) (E : Engine) (h : Head) (x : E .State) (c : Call) (k : Check) → meet fixed n E h x c k ≡ meet fixed f E h x c k
-unfolding meet
-meet-same n f E h x c pass = perform-same n f E h x c
-meet-same n f E h x c (fail number returned) = refl
-
--- 41 to 43 ask for its size and for the kinds of its signals
-module _ (n f : Network) (size : n .size ≡ f .size) (kinds : (s : ℕ) → Signal f s → n .kind s ≡ f .kind s) where
-  signal-same : (s : ℕ) → isSignal n s ≡ isSignal f s
-  unfolding isSignal
-  signal-same s = rw size
-
-  input-same : (s : ℕ) → (isSignal n s and eqb (n .kind s) input) ≡ (isSignal f s and eqb (f .kind s) input)
-  unfolding _and_
-  input-same s = rw (signal-same s) (go (isSignal f s) refl)
-    where
-      go : (b : Bool) → isSignal f s ≡ b → (b and eqb (n .kind s) input) ≡ (b and eqb (f .kind s) input)
-      go true e = ap (λ (k : ℕ). eqb k input) (kinds s (signal-true f s e))
-      go false e = refl
-
-  check-same : (finished : ℕ) (c : Call) → callCheck n finished c ≡ callCheck f finished c
-  unfolding callCheck
-  check-same finished (set s v) = ap (λ (b : Bool). first (unless b 41 s) (unless (leb v 3) 42 v)) (input-same s)
-  check-same finished (watch s mask) = ap (λ (b : Bool). first (unless b 41 s) (unless (leb mask 15) 42 mask)) (signal-same s)
-  check-same finished (read s) = ap (λ (b : Bool). unless b 41 s) (signal-same s)
-  check-same finished (run k) = refl
-
-  outcome-same : (E : Engine) (h : Head) (x : E .State) (c : Lent) → outcome fixed n E h x c ≡ outcome fixed f E h x c
-  unfolding outcome lentCheck
-  outcome-same E h x c =
-      ap (λ (k : Check). meet fixed n E h x (c .call) (first (unless (sameLengths (c .lengths) fixed) 40 0) k)) (check-same (h .finished) (c .call))
-      ∙ meet-same n f E h x (c .call) (first (unless (sameLengths (c .lengths) fixed) 40 0) (callCheck f (h .finished) (c .call)))
-
--- the tables' machine keeps step with the files'
 module _ {f : Network} {g : Module} (ok : Scheduled f g) (processor slot : ℕ → ℕ)
     (placed : (s : ℕ) → Signal f s → At g (processor s) (slot s) × (g .signal (processor s) (slot s) ≡ s)) (panel program : List ℕ)
     (holding : Holding f g panel program) where
@@ -91,14 +45,8 @@ module _ {f : Network} {g : Module} (ok : Scheduled f g) (processor slot : ℕ �
             ∙ ap (λ (p : ℕ). u .earlierLocal p (slotIn panel s)) (e .0) ∙ ap (λ (k : ℕ). u .earlierLocal (processor s) k) (e .1);
       }
 
-  like-self : (h : Head) → Like f h h
-  like-self h = record { finished = refl; hand = λ s a k. refl; watch = refl }
-
-  -- the outcome of a call on the tables is that of the files' machine
-  pub tables-outcome : (w : Memory) (c : Lent) → Signal f (watchedIn panel)
-      → SameOutcome fixed f inTables (lockstep f g processor slot) tables-step
-      (outcome fixed (networkIn panel program) inTables (headIn panel) w c) (outcome fixed f (lockstep f g processor slot) (headIn panel) w c)
-  tables-outcome w c watching =
-      subst (λ (o : Outcome Memory). SameOutcome fixed f inTables (lockstep f g processor slot) tables-step o (outcome fixed f (lockstep f g processor slot) (headIn panel) w c))
-      (sym (outcome-same (networkIn panel program) f (holding .signals .size) (holding .signals .kinds) inTables (headIn panel) w c))
-      (outcome-alike fixed f inTables (lockstep f g processor slot) tables-step (headIn panel) (headIn panel) w w c (like-self (headIn panel)) near-refl watching)
+  pub tables-alike : (h : Head) (w : Memory) (c : Call) → Signal f (h .watch .signal)
+      → SameOutcome fixed f inTables (lockstep f g processor slot) tables-step (command fixed (networkIn panel program) inTables h w c)
+      (command fixed f (lockstep f g processor slot) h w c)
+  tables-alike h w c watching =
+      commands-alike fixed (networkIn panel program) f (holding .signals .size) (holding .signals .kinds) inTables (lockstep f g processor slot) tables-step h w w c near-refl watching

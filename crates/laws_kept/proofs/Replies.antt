@@ -2,14 +2,12 @@
 -- network and a module still hold them.
 use mathlib.Core.Path.{_≡_, refl, sym, subst, ap}
 use mathlib.Core.Bool.{Bool, true, false}
-use borrow.Author.Tests.{eq-eqb}
-use Rattle.logic.proofs.Tests.{and-true, and-left, and-right}
 use Rattle.model.specs.Network.{Network}
 use Rattle.model.specs.Module.{Module}
 use Rattle.model.specs.Session.{Call, sameLengths}
-use Rattle.buffers_memory.specs.Memory.{memoryLength, within}
+use Rattle.buffers_memory.specs.Memory.{within}
 use Rattle.buffers_memory.proofs.Written.{written-length}
-use Rattle.buffers_tables.specs.Panel.{panelLength, processorsIn, slotsIn}
+use Rattle.buffers_tables.specs.Panel.{processorsIn, slotsIn}
 use Rattle.buffers_tables.specs.Holding.{Holding}
 use Rattle.buffers_range.specs.Ranges.{ranged}
 use Rattle.buffers_range.proofs.Ranged.{memory-in-range, head-ranged}
@@ -17,6 +15,7 @@ use Rattle.session_calls.specs.Reply.{Buffers, lengthsOf, leaving, reply, Reply
 use Rattle.laws_kept.proofs.Tables.{same-holding}
 use Rattle.laws_kept.proofs.Heads.{with-head-length, with-head-tables}
 use Rattle.buffers_lengths.specs.Lengths.{fixed}
+use Rattle.buffers_lengths.proofs.Sizes.{sizes-same, same-sizes}
 use Rattle.session_calls.proofs.Replies.{outcomeIn, reply-44, Leaves, done, stays, reply-leaves}
 use Rattle.laws_kept.proofs.Panels.{with-head-ranged}
 use Rattle.laws_kept.proofs.Memories.{with-memory-values}
@@ -32,11 +31,13 @@ module _ (b : Buffers) (c : Call) (lent : sameLengths (lengthsOf b) fixed ≡ tr
       go (stays is head state) = subst P (sym is) here
 
   left-lengths : sameLengths (lengthsOf (leaving b (outcomeIn b c))) fixed ≡ true
-  unfolding sameLengths
   left-lengths =
-      and-true _ _ (eq-eqb _ panelLength (with-head-length (outcomeIn b c .head) (b .panel)))
-      (and-true _ _ (and-left _ _ (and-right _ _ lent))
-      (eq-eqb _ memoryLength (written-length (within (processorsIn (b .panel)) (slotsIn (b .panel))) (outcomeIn b c .state) (b .memory))))
+      sizes-same _ _ _
+      (record {
+        panel-size = with-head-length (outcomeIn b c .head) (b .panel);
+        program-size = same-sizes _ _ _ lent .program-size;
+        memory-size = written-length (within (processorsIn (b .panel)) (slotsIn (b .panel))) (outcomeIn b c .state) (b .memory);
+      })
 
   pub reply-lengths : sameLengths (lengthsOf (reply b c .buffers)) fixed ≡ true
   reply-lengths = go (ranged (b .panel) (b .program) (b .memory)) refl

@@ -12,7 +12,7 @@ use Rattle.model.specs.Network.{Network, Signal, isSignal}
 use Rattle.model.specs.Netlist.{network, netSurplus, netChains, netCheck}
 use Rattle.model.specs.Value.{start, Follows, VAL, FollowsAlways}
 use Rattle.model.specs.Module.{Module, At}
-use Rattle.model.specs.Machine.{Memory, opening, after}
+use Rattle.model.specs.Machine.{Memory, cycle, opening, after}
 use Rattle.model.specs.Stimulus.{held, endTime}
 use Rattle.model.specs.Acceptance.{networkOf, moduleOfFiles, givenOf, Accepted}
 use Rattle.model.specs.Session.{lockstep, Head, fresh, Lengths, Lent, Answer, Outcome, outcome, plainAfter}
@@ -99,18 +99,18 @@ printed-demand-2 limit =
 
 -- The session over the machine: what a call answers and leaves is its outcome, a contract that is a function
 module _ (fixed : Lengths) (n : Network) (m : Module) (processor slot : ℕ → ℕ) where
-  abbrev result : Working → Lent → Outcome Memory
-  result b c = outcome fixed n (lockstep n m processor slot) (b .head) (b .memory) c
+  abbrev result : Working Memory → Lent → Outcome Memory
+  result b c = outcome fixed n (lockstep n m processor slot) (b .head) (b .state) c
 
-  abbrev pub leaves : Working → Lent → Working
-  leaves b c = record { head = result b c .head; memory = result b c .state }
+  abbrev pub leaves : Working Memory → Lent → Working Memory
+  leaves b c = record { head = result b c .head; state = result b c .state }
 
-  pub record Performs (b : Working) (c : Lent) (a : Answer) (b′ : Working) : Type 0 where
+  pub record Performs (b : Working Memory) (c : Lent) (a : Answer) (b′ : Working Memory) : Type 0 where
     pub answer : a ≡ result b c .answer
     pub left : b′ ≡ leaves b c
 
   -- the calls of a list, one after the other
-  unfoldable pub folded : (b : Working) (cs : List Lent) → Trace Performs b cs
+  unfoldable pub folded : (b : Working Memory) (cs : List Lent) → Trace Performs b cs
   folded b [] = end
   folded b (c ∷ cs) = next (result b c .answer) (leaves b c) (record { answer = refl; left = refl }) (folded (leaves b c) cs)
 
@@ -121,21 +121,22 @@ like-refl n h = record { finished = refl; hand = λ s g k. refl; watch = refl }
 module _ (limit : ℕ) (files : Files) (accepted : Accepted limit files) (fixed : Lengths) (processor slot : ℕ → ℕ)
     (placed : (s : ℕ) → Signal (networkOf files) s
     → At (moduleOfFiles files) (processor s) (slot s) × (moduleOfFiles files .signal (processor s) (slot s) ≡ s)) where
-  abbrev pub opened : Working
-  opened = record { head = fresh (givenOf files); memory = opening (moduleOfFiles files) (start (networkOf files) (givenOf files)) }
+  abbrev pub opened : Working Memory
+  opened = record { head = fresh (givenOf files); state = opening (moduleOfFiles files) (start (networkOf files) (givenOf files)) }
 
-  performs-met : (b : Working) (c : Lent) (a : Answer) (b′ : Working) → Performs fixed (networkOf files) (moduleOfFiles files) processor slot b c a b′
-      → Met (λ w. w) fixed (networkOf files) (moduleOfFiles files) processor slot (Near (moduleOfFiles files)) b c a b′
+  performs-met : (b : Working Memory) (c : Lent) (a : Answer) (b′ : Working Memory) → Performs fixed (networkOf files) (moduleOfFiles files) processor slot b c a b′
+      → Met (lockstep (networkOf files) (moduleOfFiles files) processor slot) (λ w. w) fixed (networkOf files) (Near (moduleOfFiles files)) b c a b′
   performs-met b c a b′ p =
       record {
         answer = p .answer;
         head = rw (p .left) (like-refl (networkOf files) _);
-        memory = rw (p .left) near-refl;
+        state = rw (p .left) near-refl;
       }
 
   -- whichever values follow the rules of VAL
   pub session-demand-3 : (table : List (ℕ → ℕ) → ℕ → ℕ) → FollowsAlways (networkOf files) (givenOf files) table → (cs : List Lent)
-      → Demand3 (Performs fixed (networkOf files) (moduleOfFiles files) processor slot) (λ w. w) fixed (networkOf files) (moduleOfFiles files) (givenOf files) table
+      → Demand3 (Performs fixed (networkOf files) (moduleOfFiles files) processor slot) (cycle (networkOf files) (moduleOfFiles files))
+      (Places (networkOf files) (moduleOfFiles files)) (λ w. w) fixed (networkOf files) (givenOf files) table
       (folded fixed (networkOf files) (moduleOfFiles files) processor slot opened cs) []
   unfolding fresh network plainAfter
   session-demand-3 table follows cs =
@@ -143,7 +144,8 @@ module _ (limit : ℕ) (files : Files) (accepted : Accepted limit files) (fixed 
       let acyclic = accepted-acyclic limit files accepted in
       let ok = accepted-scheduled limit files accepted in
       let size = net-size limit (files .NET) (net-accepted limit files accepted) in
-      demand-3 (λ w. w) fixed (networkOf files) (moduleOfFiles files) processor slot (Near (moduleOfFiles files)) (givenOf files) table
+      demand-3 (lockstep (networkOf files) (moduleOfFiles files) processor slot) (λ w. w) fixed (networkOf files) (Near (moduleOfFiles files))
+      (Places (networkOf files) (moduleOfFiles files)) (givenOf files) table
       (keeps formed acyclic ok (givenOf files) table follows processor slot placed) (kept-table formed acyclic ok (givenOf files) table follows)
       (kept-near formed acyclic ok (givenOf files))
       (Performs fixed (networkOf files) (moduleOfFiles files) processor slot) (λ b. Unit {0}) (λ b c a b′ g. performs-met b c a b′) (λ b c a b′ g p. tt)
@@ -151,7 +153,7 @@ module _ (limit : ℕ) (files : Files) (accepted : Accepted limit files) (fixed 
       (record {
         good = tt;
         head = like-refl (networkOf files) (fresh (givenOf files));
-        memory = kept-opening formed acyclic ok (givenOf files);
+        state = kept-opening formed acyclic ok (givenOf files);
         watching = record { low = omega arith; high = size .0 };
         rows-finished = refl;
       })

@@ -9,6 +9,7 @@ pub mod Checked
 pub mod Operands
 pub mod Machine
 pub mod Halves
+pub mod Lengths
 pub mod Session
 pub mod Keeping
 pub mod Ages

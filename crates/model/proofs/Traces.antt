@@ -1,5 +1,5 @@
 -- Demand 3 over any trace of calls: what the calls' contracts give of each call, on the buffers as the last one left them, gives the
--- claim of the list. The idea: heads that are alike and a memory that keeps step with the plain session's rows, call after call.
+-- claim of the list. The idea: heads that are alike and a state that keeps step with the plain session's rows, call after call.
 use Prim.Native.Nat.{ℕ, zero, suc, _+_}
 use mathlib.Core.Path.{_≡_, refl, sym, subst, _∙_, ap, fun-ext}
 use mathlib.Core.Bool.{Bool, true, false}
@@ -8,10 +8,8 @@ use native.Mathlib.Omega.{arith}
 use lib.ListN.{length, replicate}
 use Rattle.model.specs.Refusal.{Check, pass, fail}
 use Rattle.model.specs.Network.{Network, Signal}
-use Rattle.model.specs.Module.{Module}
-use Rattle.model.specs.Machine.{Memory, cycle}
-use Rattle.model.specs.Session.{plain, lockstep, watched, Head, Call, set, watch, read, run, Lengths, Lent, Answer, Run, unlessStopped, runs, ticks, Outcome, lentCheck, running, perform, meet, outcome, plainAfter, lastSet}
-use Rattle.model.specs.Demands.{Places, Working, Trace, end, next, Agrees, Inside, Demand3}
+use Rattle.model.specs.Session.{Engine, plain, watched, Head, Call, set, watch, read, run, Lengths, Lent, Answer, Run, unlessStopped, runs, ticks, Outcome, lentCheck, running, perform, meet, outcome, plainAfter, lastSet}
+use Rattle.model.specs.Demands.{Working, Trace, end, next, Agrees, Inside, Demand3}
 use Rattle.model.proofs.Session.{Like, like-trans, KeepStep, outcome-alike, ticks-alike}
 use Rattle.model.proofs.Inputs.{copies-more, hand-last-set, rows-last-set}
 
@@ -55,21 +53,21 @@ unfolding ticks
 copied row zero rows = refl
 copied row (suc j) rows = copied row j (row ∷ rows) ∙ copies-more row j rows
 
--- a call met its contract: its answer, and the buffers that it leaves, are those of the session over the machine. Close says which
--- memories count as one: those that agree at the module's locations.
-module _ {Buffers : Type 0} (decode : Buffers → Working) (fixed : Lengths) (n : Network) (m : Module) (processor slot : ℕ → ℕ)
-    (Close : Memory → Memory → Type 0) where
-  abbrev machined : Buffers → Lent → Outcome Memory
-  machined b c = outcome fixed n (lockstep n m processor slot) (decode b .head) (decode b .memory) c
+-- a call met its contract: its answer, and the buffers that it leaves, are those of the session over the engine. Close says which states
+-- count as one: of the machine's memories, those that agree at the module's locations.
+module _ {Buffers : Type 0} (E : Engine) (decode : Buffers → Working (E .State)) (fixed : Lengths) (n : Network)
+    (Close : E .State → E .State → Type 0) where
+  abbrev engined : Buffers → Lent → Outcome (E .State)
+  engined b c = outcome fixed n E (decode b .head) (decode b .state) c
 
   pub record Met (b : Buffers) (c : Lent) (a : Answer) (b′ : Buffers) : Type 0 where
-    pub answer : a ≡ machined b c .answer
-    pub head : Like n (decode b′ .head) (machined b c .head)
-    pub memory : Close (decode b′ .memory) (machined b c .state)
+    pub answer : a ≡ engined b c .answer
+    pub head : Like n (decode b′ .head) (engined b c .head)
+    pub state : Close (decode b′ .state) (engined b c .state)
 
-  module _ (given : ℕ → ℕ) (table : List (ℕ → ℕ) → ℕ → ℕ) (K : KeepStep n (lockstep n m processor slot) (plain table))
-      (places : (w : Memory) (rows : List (ℕ → ℕ)) → K .R w rows → Places n m w (table rows))
-      (close : (w u : Memory) (rows : List (ℕ → ℕ)) → Close w u → K .R u rows → K .R w rows)
+  module _ (Shows : E .State → (ℕ → ℕ) → Type 0) (given : ℕ → ℕ) (table : List (ℕ → ℕ) → ℕ → ℕ) (K : KeepStep n E (plain table))
+      (shows : (w : E .State) (rows : List (ℕ → ℕ)) → K .R w rows → Shows w (table rows))
+      (close : (w u : E .State) (rows : List (ℕ → ℕ)) → Close w u → K .R u rows → K .R w rows)
       (Post : Buffers → Lent → Answer → Buffers → Type 0) (Good : Buffers → Type 0)
       (meets : (b : Buffers) (c : Lent) (a : Answer) (b′ : Buffers) → Good b → Post b c a b′ → Met b c a b′)
       (stays : (b : Buffers) (c : Lent) (a : Answer) (b′ : Buffers) → Good b → Post b c a b′ → Good b′) where
@@ -77,7 +75,7 @@ module _ {Buffers : Type 0} (decode : Buffers → Working) (fixed : Lengths) (n 
     pub record InStep (b : Buffers) (h : Head) (rows : List (ℕ → ℕ)) : Type 0 where
       pub good : Good b
       pub head : Like n (decode b .head) h
-      pub memory : K .R (decode b .memory) rows
+      pub state : K .R (decode b .state) rows
       pub watching : Signal n (h .watch .signal)
       pub rows-finished : length rows ≡ h .finished
 
@@ -88,36 +86,36 @@ module _ {Buffers : Type 0} (decode : Buffers → Working) (fixed : Lengths) (n 
     abbrev After : Buffers → List Lent → Type 0
     After b calls = InStep b (session calls .head) (session calls .state)
 
-    agrees : (b : Buffers) (calls : List Lent) → After b calls → Agrees Post decode fixed n m given table b calls
+    agrees : (b : Buffers) (calls : List Lent) → After b calls → Agrees Post (E .tick) Shows decode fixed n given table b calls
     agrees b calls i =
         let set = rows-last-set fixed n given table calls in
         record {
           finished = i .head .finished;
           rows = set;
           rows-finished = ap length (sym set) ∙ i .rows-finished;
-          places = subst (λ (r : List (ℕ → ℕ)). Places n m (decode b .memory) (table r)) set (places (decode b .memory) (session calls .state) (i .memory));
+          shows = subst (λ (r : List (ℕ → ℕ)). Shows (decode b .state) (table r)) set (shows (decode b .state) (session calls .state) (i .state));
         }
 
-    inside : (b : Buffers) (a : Answer) (calls : List Lent) → After b calls → Inside Post decode fixed n m given table b a calls
+    inside : (b : Buffers) (a : Answer) (calls : List Lent) → After b calls → Inside Post (E .tick) Shows decode fixed n given table b a calls
     inside b a calls i j l =
         let hand = session calls .head .hand in
-        subst (λ (r : List (ℕ → ℕ)). Places n m (ticks (cycle n m (decode b .head .hand)) j (decode b .memory)) (table r))
+        subst (λ (r : List (ℕ → ℕ)). Shows (ticks (E .tick (decode b .head .hand)) j (decode b .state)) (table r))
         (copied hand j (session calls .state)
         ∙ ap (λ (row : ℕ → ℕ). replicate j row ++ session calls .state) (fun-ext (hand-last-set fixed n given table calls))
         ∙ ap (λ (r : List (ℕ → ℕ)). replicate j (lastSet fixed n given table calls) ++ r) (rows-last-set fixed n given table calls))
-        (places _ _
-        (ticks-alike (cycle n m (decode b .head .hand)) (λ r. hand ∷ r) (K .R) (K .step (decode b .head .hand) hand (i .head .hand)) j
-        (decode b .memory) (session calls .state) (i .memory)))
+        (shows _ _
+        (ticks-alike (E .tick (decode b .head .hand)) (λ r. hand ∷ r) (K .R) (K .step (decode b .head .hand) hand (i .head .hand)) j
+        (decode b .state) (session calls .state) (i .state)))
 
     pub demand-3 : {b : Buffers} {cs : List Lent} (t : Trace Post b cs) (calls : List Lent) → After b calls
-        → Demand3 Post decode fixed n m given table t calls
+        → Demand3 Post (E .tick) Shows decode fixed n given table t calls
     unfolding Demand3 plainAfter
     demand-3 (end {b}) calls i = agrees b calls i
     demand-3 (next {b} {c} a b′ p rest) calls i =
         let h = session calls .head in
         let rows = session calls .state in
         let met = meets b c a b′ (i .good) p in
-        let o = outcome-alike fixed n (lockstep n m processor slot) (plain table) K (decode b .head) h (decode b .memory) rows c (i .head) (i .memory) (i .watching) in
+        let o = outcome-alike fixed n E (plain table) K (decode b .head) h (decode b .state) rows c (i .head) (i .state) (i .watching) in
         let told = outcome fixed n (plain table) h rows c in (
           agrees b calls i,
           met .answer ∙ o .answer,
@@ -125,8 +123,8 @@ module _ {Buffers : Type 0} (decode : Buffers → Working) (fixed : Lengths) (n 
           demand-3 rest (c ∷ calls)
               (record {
                 good = stays b c a b′ (i .good) p;
-                head = like-trans n (decode b′ .head) (machined b c .head) (told .head) (met .head) (o .head);
-                memory = close (decode b′ .memory) (machined b c .state) (told .state) (met .memory) (o .state);
+                head = like-trans n (decode b′ .head) (engined b c .head) (told .head) (met .head) (o .head);
+                state = close (decode b′ .state) (engined b c .state) (told .state) (met .state) (o .state);
                 watching = o .watching;
                 rows-finished = outcome-rows fixed n table h rows c (i .rows-finished);
               }),

@@ -8,7 +8,7 @@ use Rattle.model.specs.Files.{Files}
 use Rattle.model.specs.Network.{Network, Signal}
 use Rattle.model.specs.Value.{Follows}
 use Rattle.model.specs.Module.{Module, At}
-use Rattle.model.specs.Machine.{Memory, cycle}
+use Rattle.model.specs.Machine.{Memory}
 use Rattle.model.specs.Stimulus.{held, endTime}
 use Rattle.model.specs.Acceptance.{networkOf, givenOf, fileCheck, Accepted}
 use Rattle.model.specs.Session.{Head, Lengths, Lent, Answer, Outcome, ticks, cyclesDone, plainAfter, lastSet, rowsSet}
@@ -28,10 +28,10 @@ pub record Demand2 (limit : ℕ) (prints : Files → List ℕ) : Type 0 where
 abbrev pub Places : Network → Module → Memory → (ℕ → ℕ) → Type 0
 Places n m w v = (s p i : ℕ) → Signal n s → At m p i → m .signal p i ≡ s → w .earlierLocal p i ≡ v s
 
--- what the working buffers hold: the session's head and the machine's memory
-pub record Working : Type 0 where
+-- what the working buffers hold: the session's head, and the state of its engine
+pub record Working (S : Type 0) : Type 0 where
   pub head : Head
-  pub memory : Memory
+  pub state : S
 
 -- Calls one after the other, "each call getting the working memory as the last one left it": Post is the calls' contract, that a
 -- call on the buffers b may answer a and leave b′.
@@ -40,8 +40,10 @@ module _ {Buffers : Type 0} (Post : Buffers → Lent → Answer → Buffers → 
     end : {b : Buffers} → Trace b []
     next : {b : Buffers} {c : Lent} {cs : List Lent} (a : Answer) (b′ : Buffers) → Post b c a b′ → Trace b′ cs → Trace b (c ∷ cs)
 
+  -- tick is the engine's cycle, and Shows says that a state has a value for every signal: the machine's memory, at its place (`Places`).
   -- The plain session is fed the files and the calls: given has the time 0 values, table tells VAL by the rows of the inputs' values.
-  module _ (decode : Buffers → Working) (fixed : Lengths) (n : Network) (m : Module) (given : ℕ → ℕ) (table : List (ℕ → ℕ) → ℕ → ℕ) where
+  module _ {S : Type 0} (tick : (ℕ → ℕ) → S → S) (Shows : S → (ℕ → ℕ) → Type 0) (decode : Buffers → Working S) (fixed : Lengths) (n : Network)
+      (given : ℕ → ℕ) (table : List (ℕ → ℕ) → ℕ → ℕ) where
     -- the plain session after the calls so far, the last first
     abbrev told : List Lent → Outcome (List (ℕ → ℕ))
     told calls = plainAfter fixed n given table calls
@@ -55,18 +57,18 @@ module _ {Buffers : Type 0} (Post : Buffers → Lent → Answer → Buffers → 
       pub finished : decode b .head .finished ≡ told calls .head .finished
       pub rows : told calls .state ≡ inputs calls
       pub rows-finished : length (inputs calls) ≡ told calls .head .finished
-      pub places : Places n m (decode b .memory) (table (inputs calls))
+      pub shows : Shows (decode b .state) (table (inputs calls))
 
-    -- "inside a run too": the memory after the j-th cycle of a call is what j cycles of the machine, "fed the input values that the
+    -- "inside a run too": the state after the j-th cycle of a call is what j cycles of the engine, "fed the input values that the
     -- session holds for its next cycle, make of the memory as the run got it"
     abbrev pub Inside : Buffers → Answer → List Lent → Type 0
     Inside b a calls =
         (j : ℕ) → j ≤ cyclesDone a
-        → Places n m (ticks (cycle n m (decode b .head .hand)) j (decode b .memory))
+        → Shows (ticks (tick (decode b .head .hand)) j (decode b .state))
         (table (replicate j (lastSet fixed n given table calls) ++ inputs calls))
 
     -- Demand 3 of a list of calls, others being made before it: "Every answer in the list, refusals included, and the number of cycles
-    -- finished after each call equal those of the plain session", and the places hold VAL throughout
+    -- finished after each call equal those of the plain session", and the state shows VAL throughout
     unfoldable pub Demand3 : {b : Buffers} {cs : List Lent} → Trace b cs → List Lent → Type 0
     Demand3 (end {b}) calls = Agrees b calls
     Demand3 (next {b} {c} a b′ p rest) calls =

@@ -49,14 +49,16 @@ pub data Call : Type 0 where
   set watch : ℕ → ℕ → Call
   read run : ℕ → Call
 
--- the lengths of the working buffers
-pub record Lengths : Type 0 where
-  pub panel : ℕ
-  pub program : ℕ
-  pub memory : ℕ
+-- the lengths of the working buffers, in the order in which they are lent
+abbrev pub Lengths : Type 0
+Lengths = List ℕ
 
+-- the same lengths, each at its place
 unfoldable pub sameLengths : Lengths → Lengths → Bool
-sameLengths a b = eqb (a .panel) (b .panel) and eqb (a .program) (b .program) and eqb (a .memory) (b .memory)
+sameLengths [] [] = true
+sameLengths [] (b ∷ others) = false
+sameLengths (a ∷ lengths) [] = false
+sameLengths (a ∷ lengths) (b ∷ others) = eqb a b and sameLengths lengths others
 
 -- a call with the lengths of the buffers lent to it
 pub record Lent : Type 0 where
@@ -99,6 +101,11 @@ pub record Outcome (S : Type 0) : Type 0 where
   pub answer : Answer
   pub head : Head
   pub state : S
+
+-- a call's answer, and the buffers as it leaves them
+pub record Reply (Buffers : Type 0) : Type 0 where
+  pub answer : Answer
+  pub buffers : Buffers
 
 -- 41, 42, 43 (01, Refusals)
 unfoldable pub callCheck : Network → ℕ → Call → Check

@@ -3,7 +3,7 @@ use Prim.Native.Nat.{ℕ}
 use mathlib.Core.List.{List}
 use Rattle.model.specs.Refusal.{Check, pass, fail, first, unless}
 use Rattle.model.specs.Machine.{Memory}
-use Rattle.model.specs.Session.{lockstep, Call, Lengths, sameLengths, Answer, refused, Outcome, callCheck, perform}
+use Rattle.model.specs.Session.{lockstep, Call, Lengths, sameLengths, refused, Outcome, Reply as ReplyOn, callCheck, perform}
 use Rattle.buffers_memory.specs.Memory.{memoryOf, withMemory}
 use Rattle.buffers_tables.specs.Panel.{processorsIn, slotsIn, processorIn, slotIn}
 use Rattle.buffers_tables.specs.Tables.{networkIn, moduleIn}
@@ -24,10 +24,9 @@ buffersOf panel program memory = record { panel = panel; program = program; memo
 abbrev pub lengthsOf : Buffers → Lengths
 lengthsOf b = lengthsLent (b .panel) (b .program) (b .memory)
 
--- the answer, and the buffers as the call leaves them
-pub record Reply : Type 0 where
-  pub answer : Answer
-  pub buffers : Buffers
+-- the answer, and these buffers as the call leaves them
+abbrev pub Reply : Type 0
+Reply = ReplyOn Buffers
 
 -- "Session calls: 40, 44, 41, 42, 43.", on the network and the head that the buffers hold
 abbrev pub replyCheck : Buffers → Call → Check

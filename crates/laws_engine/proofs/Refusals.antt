@@ -1,4 +1,4 @@
--- "44 never comes" (01, Session): no call on the session's own buffers is refused with 44.
+-- "44 never comes" (01, Session): the session itself, over any engine, refuses no call with 44.
 use Prim.Native.Nat.{ℕ, _+_}
 use mathlib.Core.Path.{_≡_}
 use mathlib.Core.Bool.{Bool, true, false}
@@ -7,9 +7,8 @@ use lib.Dec.{eqb, leb}
 use Rattle.logic.specs.Test.{_and_}
 use Rattle.model.specs.Refusal.{Check, pass, fail, first, unless}
 use Rattle.model.specs.Network.{Network, input, isSignal}
-use Rattle.model.specs.Session.{Engine, Head, Call, set, watch, read, run, callCheck, running, perform, meet}
-use Rattle.buffers_lengths.specs.Lengths.{fixed}
-use Rattle.laws_demand3.specs.Lending.{numberOf}
+use Rattle.model.specs.Session.{Engine, Head, Call, set, watch, read, run, Lengths, callCheck, running, perform, meet}
+use Rattle.laws_engine.specs.Lending.{numberOf}
 
 -- the number of a check that fails, 0 where it passes
 numberIn : Check → ℕ
@@ -41,14 +40,14 @@ call-44 n finished (watch s mask) =
 call-44 n finished (read s) = unless-44 (isSignal n s) 41 s (λ e. omega arith)
 call-44 n finished (run k) = unless-44 (leb (finished + k) 65535) 43 finished (λ e. omega arith)
 
-meet-44 : (n : Network) (E : Engine) (h : Head) (x : E .State) (c : Call) (k : Check) → Not44 (numberIn k) → Not44 (numberOf (meet fixed n E h x c k .answer))
+meet-44 : (fixed : Lengths) (n : Network) (E : Engine) (h : Head) (x : E .State) (c : Call) (k : Check) → Not44 (numberIn k) → Not44 (numberOf (meet fixed n E h x c k .answer))
 unfolding meet perform running numberIn
-meet-44 n E h x (set s v) pass l = none-44
-meet-44 n E h x (watch s mask) pass l = none-44
-meet-44 n E h x (read s) pass l = none-44
-meet-44 n E h x (run k) pass l = none-44
-meet-44 n E h x c (fail number returned) l = l
+meet-44 fixed n E h x (set s v) pass l = none-44
+meet-44 fixed n E h x (watch s mask) pass l = none-44
+meet-44 fixed n E h x (read s) pass l = none-44
+meet-44 fixed n E h x (run k) pass l = none-44
+meet-44 fixed n E h x c (fail number returned) l = l
 
 -- a command is not refused with 44
-pub command-44 : (n : Network) (E : Engine) (h : Head) (x : E .State) (c : Call) → Not44 (numberOf (meet fixed n E h x c (callCheck n (h .finished) c) .answer))
-command-44 n E h x c = meet-44 n E h x c (callCheck n (h .finished) c) (call-44 n (h .finished) c)
+pub command-44 : (fixed : Lengths) (n : Network) (E : Engine) (h : Head) (x : E .State) (c : Call) → Not44 (numberOf (meet fixed n E h x c (callCheck n (h .finished) c) .answer))
+command-44 fixed n E h x c = meet-44 fixed n E h x c (callCheck n (h .finished) c) (call-44 n (h .finished) c)

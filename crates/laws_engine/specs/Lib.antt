@@ -1,0 +1,2 @@
+pub mod Interface
+pub mod Lending

@@ -1,0 +1,1 @@
+// Demand 3 over any engine, without code.
