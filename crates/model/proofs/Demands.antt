@@ -6,10 +6,9 @@ use mathlib.Core.Bool.{Bool, true, false, false≢true}
 use mathlib.Core.List.{List, [], _∷_}
 use native.Mathlib.Omega.{arith}
 use Rattle.writing.specs.Text.{lineText}
-use Rattle.model.specs.Refusal.{pass}
 use Rattle.model.specs.Files.{Files}
 use Rattle.model.specs.Network.{Network, Signal, isSignal}
-use Rattle.model.specs.Netlist.{network, netSurplus, netChains, netCheck}
+use Rattle.model.specs.Netlist.{network}
 use Rattle.model.specs.Value.{start, Follows, VAL, history, FollowsAlways}
 use Rattle.model.specs.Procedures.{simulated}
 use Rattle.model.specs.Module.{Module, At}
@@ -19,9 +18,8 @@ use Rattle.model.specs.Acceptance.{networkOf, moduleOfFiles, givenOf, Ac
 use Rattle.model.specs.Session.{lockstep, Head, fresh, Lengths, Lent, Answer, Outcome, outcome, plainAfter}
 use Rattle.model.specs.Listing.{valueAt, joined, listedFirst, listedChange, listedCycle, listingOf, listing, printedFor, printed}
 use Rattle.model.specs.Demands.{Demand2, Places, Working, Trace, end, next, Demand3}
-use Rattle.model.proofs.Refusals.{first-right}
 use Rattle.model.proofs.Conditions.{Formed, Acyclic, Scheduled}
-use Rattle.model.proofs.Chains.{chains-pass, signal-true, signal-test}
+use Rattle.model.proofs.Chains.{net-acyclic, signal-true, signal-test}
 use Rattle.model.proofs.Value.{VAL-follows, VAL-unique}
 use Rattle.model.proofs.Procedures.{simulated-follows}
 use Rattle.model.proofs.Accepted.{net-accepted, mod-accepted, net-formed, net-size, mod-scheduled}
@@ -29,10 +27,6 @@ use Rattle.model.proofs.Machine.{Near, near-refl}
 use Rattle.model.proofs.Keeping.{kept-table, kept-near, kept-opening, machine-holds-VAL, keeps}
 use Rattle.model.proofs.Session.{Like}
 use Rattle.model.proofs.Traces.{Met, demand-3}
-
-net-acyclic : (limit : ℕ) (net : List ℕ) → netCheck limit net ≡ pass → Acyclic (network net)
-unfolding netCheck
-net-acyclic limit net h = chains-pass net (first-right (netSurplus net) (netChains net) (first-right _ _ (first-right _ _ h)))
 
 -- a listing depends on the values of the signals alone
 pub joined-same : (n : ℕ) (f g : ℕ → List ℕ) → ((k : ℕ) → suc k ≤ n → f k ≡ g k) → joined n f ≡ joined n g
@@ -60,7 +54,7 @@ module _ (limit : ℕ) (files : Files) (accepted : Accepted limit files) where
   accepted-formed = net-formed limit (files .NET) (net-accepted limit files accepted)
 
   pub accepted-acyclic : Acyclic (networkOf files)
-  accepted-acyclic = net-acyclic limit (files .NET) (net-accepted limit files accepted)
+  accepted-acyclic = net-acyclic (files .NET) limit (net-accepted limit files accepted)
 
   pub accepted-scheduled : Scheduled (networkOf files) (moduleOfFiles files)
   accepted-scheduled = mod-scheduled (networkOf files) (files .MOD) (mod-accepted limit files accepted)
