@@ -1,4 +1,4 @@
--- The rank-order gates and their feeders as the code loads them: it mirrors private functions.
+-- The rank-order gates and their feeders, store by store as the code loads them. `proofs/Closed` says what graph this is.
 use Prim.Native.Nat.{ℕ, zero, suc, _+_, _*_, _/_, _%_}
 use mathlib.Core.List.{List}
 use lib.Dec.{eqb}
@@ -25,7 +25,7 @@ unfoldable pub edgesTo : List ℕ → List ℕ → List ℕ → ℕ → List ℕ
 edgesTo net follow l zero = l
 edgesTo net follow l (suc k) = set (edgesTo net follow l k) (k + 4) (feederOf net follow (k + 4))
 
--- the arrays as they are loaded, zeros before
+-- the arrays that `load_graph` leaves, zeros before it
 abbrev pub followOf : List ℕ → ℕ → List ℕ
 followOf net size = followTo net (replicate 4097 0) size
 
