@@ -60,11 +60,7 @@ output-printed {files} w = w .is ∙ handed-printed files (w .handing) refl
 
 -- Demand 2 of whatever the program writes for the files where no write fails
 pub handed-demand-2 : (prints : Files → List ℕ) → ((files : Files) → Output files (prints files)) → Demand2 panelLimit prints
-handed-demand-2 prints by =
-    record {
-      lists = λ files accepted table follows. output-printed (by files) ∙ printed-demand-2 panelLimit .lists files accepted table follows;
-      refuses = λ files number returned e. output-printed (by files) ∙ printed-demand-2 panelLimit .refuses files number returned e;
-    }
+handed-demand-2 prints by = printed-demand-2 panelLimit prints (λ files. output-printed (by files))
 
 -- and such a text there is for all files
 pub output-some : (files : Files) → Output files (printed panelLimit files)

@@ -14,7 +14,8 @@ use Rattle.fields.specs.Line.{isLineAt}
 use Rattle.model.specs.Netlist.{netSize, netHeader, netSignal, netSurplus, netChains, netCheck}
 use Rattle.model.proofs.Refusals.{first-second, first-stays, below-pass, first-left, first-right, unless-true}
 use Rattle.model.proofs.Accepted.{signal-right}
-use Rattle.file_net_chains.specs.Chain.{Lines, chainCheck}
+use Rattle.file_net_graph.specs.Lines.{Lines}
+use Rattle.file_net_chains.specs.Chain.{chainCheck}
 use Rattle.file_net.specs.Answer.{netRefusal, Judged}
 use Rattle.file_net.specs.declared.NetAnswer.{NetAnswer}
 use Rattle.file_net.specs.declared.NetAnswer.the-variants.{Accepted, Misformed, Layout, Sources, Chain}

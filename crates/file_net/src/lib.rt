@@ -4,7 +4,7 @@ ghost use mathlib.Core.Path.{_≡_};
 ghost use Prim.Native.Nat.{suc, _≤_};
 ghost use Rattle.model.specs.Refusal.{firstBelow};
 ghost use Rattle.model.specs.Netlist.{netSize, netHeader, netSignal, netSurplus, netChains, netCheck};
-ghost use Rattle.file_net_chains.specs.Chain.{Lines};
+ghost use Rattle.file_net_graph.specs.Lines.{Lines};
 ghost use Rattle.file_net.specs.Answer.{answerOf, Judged};
 use fields::Field;
 use fields::Line;

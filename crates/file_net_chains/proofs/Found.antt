@@ -10,14 +10,16 @@ use Rattle.model.specs.Refusal.{unless}
 use Rattle.model.specs.Network.{Network, Signal, Chain, one, more}
 use Rattle.model.specs.Netlist.{network, netChains}
 use Rattle.model.proofs.Chains.{chains-acyclic, chains-smallest}
-use Rattle.file_net_chains.specs.Chain.{Lines, chainCheck}
-use Rattle.file_net_chains.proofs.Closed.{edges, path-chain, chain-path}
+use Rattle.file_net_graph.specs.Lines.{Lines}
+use Rattle.file_net_graph.specs.Graph.{edgesOf}
+use Rattle.file_net_graph.proofs.Closed.{path-chain, chain-path}
+use Rattle.file_net_chains.specs.Chain.{chainCheck}
 
 chain-end : {n : Network} {a b : ℕ} → Chain n a b → Signal n b
 chain-end (one f) = f .to
 chain-end (more c f) = f .to
 
-module _ (net : List ℕ) (size : ℕ) (right : Lines net size) (r : ℕ) (first-loop : FirstLoop (edges net size right) size r) where
+module _ (net : List ℕ) (size : ℕ) (right : Lines net size) (r : ℕ) (first-loop : FirstLoop (edgesOf net size) size r) where
   found : (r ≡ 0 → ⊥) → chainCheck r ≡ netChains net
   unfolding chainCheck unless
   found d =

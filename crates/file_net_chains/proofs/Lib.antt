@@ -1,3 +1,1 @@
-pub mod Loading
-pub mod Closed
 pub mod Found

@@ -235,10 +235,4 @@ module _ (files : Files) where
 
 -- Demand 2 of whatever is printed by these contracts
 pub program-demand-2 : (prints : Files → List ℕ) → ((files : Files) → Prints (firstBytes files) (prints files)) → Demand2 panelLimit prints
-program-demand-2 prints by =
-    record {
-      lists = λ files accepted table follows.
-          program-prints files (prints files) (by files) ∙ printed-demand-2 panelLimit .lists files accepted table follows;
-      refuses = λ files number returned e.
-          program-prints files (prints files) (by files) ∙ printed-demand-2 panelLimit .refuses files number returned e;
-    }
+program-demand-2 prints by = printed-demand-2 panelLimit prints (λ files. program-prints files (prints files) (by files))

@@ -17,9 +17,9 @@ use Rattle.logic.proofs.Any.{any-passes, any-true}
 use Rattle.logic.proofs.Pigeon.{pigeon}
 use Rattle.model.specs.Refusal.{Check, pass, fail, unless, firstBelow}
 use Rattle.model.specs.Network.{Network, Signal, isSignal, rankOrder, Feeds, Chain, one, more, OnClosedChain}
-use Rattle.model.specs.Netlist.{network, feeds, chains, onClosedChain, netChains}
+use Rattle.model.specs.Netlist.{network, feeds, chains, onClosedChain, netSurplus, netChains, netCheck}
 use Rattle.model.proofs.Conditions.{Acyclic}
-use Rattle.model.proofs.Refusals.{unless-true, unless-pass, unless-false, below-pass, below-all, below-fail, below-first}
+use Rattle.model.proofs.Refusals.{first-right, unless-true, unless-pass, unless-false, below-pass, below-all, below-fail, below-first}
 
 lazy-or : (a b : Bool) → _≡_ {A = Bool} (elim a [ true ↦ true | false ↦ b ]) (a or b)
 unfolding _or_
@@ -317,3 +317,8 @@ module _ (net : List ℕ) where
   pub chains-smallest : (s : ℕ) → Smallest (network net) s → netChains net ≡ fail 13 s
   unfolding netChains network
   chains-smallest = smallest-fail (network net)
+
+  -- so that NET, its whole check passed, has no closed chain
+  pub net-acyclic : (limit : ℕ) → netCheck limit net ≡ pass → Acyclic (network net)
+  unfolding netCheck
+  net-acyclic limit h = chains-pass (first-right (netSurplus net) (netChains net) (first-right _ _ (first-right _ _ h)))

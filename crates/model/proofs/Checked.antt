@@ -1,5 +1,5 @@
--- What a checked NET gives, whatever limit it passed by: N in its range, right fields, and each signal's layout. A NET that passes by a limit
--- of the unit is checked.
+-- What a checked NET gives, whatever limit it passed by: N in its range, right fields, each signal's layout, and a network that is formed and
+-- has no closed chain. A NET that passes by a limit of the unit is checked.
 use Prim.Native.Nat.{ℕ, _+_, _*_, _<_, _≤_}
 use mathlib.Core.Path.{_≡_}
 use mathlib.Core.Bool.{true}
@@ -12,7 +12,9 @@ use Rattle.model.specs.Network.{Signal}
 use Rattle.model.specs.Netlist.{netLine, netSize, network, netCheck}
 use Rattle.model.specs.Acceptance.{panelLimit, Accepted}
 use Rattle.model.specs.Checked.{Checked}
-use Rattle.model.proofs.Accepted.{SignalRight, net-accepted, net-size, net-signal, net-lines}
+use Rattle.model.proofs.Conditions.{Formed, Acyclic}
+use Rattle.model.proofs.Chains.{net-acyclic}
+use Rattle.model.proofs.Accepted.{SignalRight, net-accepted, net-size, net-signal, net-formed, net-lines}
 use Rattle.model.proofs.RightLine.{line-field}
 
 -- the panel's own limit is one
@@ -38,3 +40,9 @@ module _ (net : List ℕ) (checked : Checked net) where
   pub checked-field : (s column place : ℕ) → s ≤ netSize net → column < 12 → place ≡ netLine s + 6 * column → isFieldAt net place ≡ true
   checked-field s column place high low e =
       rw e (line-field net (netLine s) 12 (net-lines (checked .limit) net (checked .passes) s high) column low)
+
+  pub checked-formed : Formed (network net)
+  checked-formed = net-formed (checked .limit) net (checked .passes)
+
+  pub checked-acyclic : Acyclic (network net)
+  checked-acyclic = net-acyclic net (checked .limit) (checked .passes)

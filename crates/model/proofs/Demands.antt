@@ -1,16 +1,16 @@
 -- Demands 2 and 3 for accepted files. Demand 3 is for any buffers whose calls meet their contracts (`Traces`), and here for the session
 -- over the machine itself, from the opening, by folding its outcomes over the list of calls.
 use Prim.Native.Nat.{ℕ, zero, suc, _≤_}
-use mathlib.Core.Path.{_≡_, refl, sym, ap}
+use mathlib.Core.Path.{_≡_, refl, sym, _∙_, ap}
 use mathlib.Core.Bool.{Bool, true, false, false≢true}
 use mathlib.Core.List.{List, [], _∷_}
 use native.Mathlib.Omega.{arith}
 use Rattle.writing.specs.Text.{lineText}
-use Rattle.model.specs.Refusal.{pass}
 use Rattle.model.specs.Files.{Files}
 use Rattle.model.specs.Network.{Network, Signal, isSignal}
-use Rattle.model.specs.Netlist.{network, netSurplus, netChains, netCheck}
-use Rattle.model.specs.Value.{start, Follows, VAL, FollowsAlways}
+use Rattle.model.specs.Netlist.{network}
+use Rattle.model.specs.Value.{start, Follows, VAL, history, FollowsAlways}
+use Rattle.model.specs.Procedures.{simulated}
 use Rattle.model.specs.Module.{Module, At}
 use Rattle.model.specs.Machine.{Memory, cycle, opening, after}
 use Rattle.model.specs.Stimulus.{held, endTime}
@@ -18,19 +18,15 @@ use Rattle.model.specs.Acceptance.{networkOf, moduleOfFiles, givenOf, Ac
 use Rattle.model.specs.Session.{lockstep, Head, fresh, Lengths, Lent, Answer, Outcome, outcome, plainAfter}
 use Rattle.model.specs.Listing.{valueAt, joined, listedFirst, listedChange, listedCycle, listingOf, listing, printedFor, printed}
 use Rattle.model.specs.Demands.{Demand2, Places, Working, Trace, end, next, Demand3}
-use Rattle.model.proofs.Refusals.{first-right}
 use Rattle.model.proofs.Conditions.{Formed, Acyclic, Scheduled}
-use Rattle.model.proofs.Chains.{chains-pass, signal-true, signal-test}
+use Rattle.model.proofs.Chains.{net-acyclic, signal-true, signal-test}
 use Rattle.model.proofs.Value.{VAL-follows, VAL-unique}
+use Rattle.model.proofs.Procedures.{simulated-follows}
 use Rattle.model.proofs.Accepted.{net-accepted, mod-accepted, net-formed, net-size, mod-scheduled}
 use Rattle.model.proofs.Machine.{Near, near-refl}
 use Rattle.model.proofs.Keeping.{kept-table, kept-near, kept-opening, machine-holds-VAL, keeps}
 use Rattle.model.proofs.Session.{Like}
 use Rattle.model.proofs.Traces.{Met, demand-3}
-
-net-acyclic : (limit : ℕ) (net : List ℕ) → netCheck limit net ≡ pass → Acyclic (network net)
-unfolding netCheck
-net-acyclic limit net h = chains-pass net (first-right (netSurplus net) (netChains net) (first-right _ _ (first-right _ _ h)))
 
 -- a listing depends on the values of the signals alone
 pub joined-same : (n : ℕ) (f g : ℕ → List ℕ) → ((k : ℕ) → suc k ≤ n → f k ≡ g k) → joined n f ≡ joined n g
@@ -58,7 +54,7 @@ module _ (limit : ℕ) (files : Files) (accepted : Accepted limit files) where
   accepted-formed = net-formed limit (files .NET) (net-accepted limit files accepted)
 
   pub accepted-acyclic : Acyclic (networkOf files)
-  accepted-acyclic = net-acyclic limit (files .NET) (net-accepted limit files accepted)
+  accepted-acyclic = net-acyclic (files .NET) limit (net-accepted limit files accepted)
 
   pub accepted-scheduled : Scheduled (networkOf files) (moduleOfFiles files)
   accepted-scheduled = mod-scheduled (networkOf files) (files .MOD) (mod-accepted limit files accepted)
@@ -71,6 +67,10 @@ module _ (limit : ℕ) (files : Files) (accepted : Accepted limit files) where
   -- and VAL does so whatever the inputs are
   pub VAL-follows-always : FollowsAlways (networkOf files) (givenOf files) (VAL (networkOf files) (givenOf files))
   VAL-follows-always = VAL-follows (networkOf files) accepted-formed accepted-acyclic (givenOf files)
+
+  -- and so do the procedures of 000
+  procedures-follow : Follows (networkOf files) (givenOf files) (held (files .STIM)) (λ t. simulated (networkOf files) (givenOf files) (history (held (files .STIM)) t))
+  procedures-follow = simulated-follows (networkOf files) accepted-formed accepted-acyclic (givenOf files) (held (files .STIM))
 
   pub value-unique : (table : ℕ → ℕ → ℕ) → Follows (networkOf files) (givenOf files) (held (files .STIM)) table
       → (t s : ℕ) → Signal (networkOf files) s → table t s ≡ valueAt files t s
@@ -85,17 +85,26 @@ module _ (limit : ℕ) (files : Files) (accepted : Accepted limit files) where
       (VAL (networkOf files) (givenOf files) rows)
   places-hold-VAL = machine-holds-VAL accepted-formed accepted-acyclic accepted-scheduled (givenOf files)
 
--- What `printed` prints meets demand 2
-pub printed-demand-2 : (limit : ℕ) → Demand2 limit (printed limit)
-unfolding printed printedFor listing
-printed-demand-2 limit =
-    record {
-      lists = λ files accepted table follows.
-          rw accepted
-          (listing-same (networkOf files .size) (endTime (files .STIM)) (valueAt files) table
-          (λ t s l h. sym (value-unique limit files accepted table follows t s (record { low = l; high = h }))));
-      refuses = λ files number returned e. rw e;
-    }
+-- What prints what `printed` does meets demand 2
+module _ (limit : ℕ) (prints : Files → List ℕ) (is : (files : Files) → prints files ≡ printed limit files) where
+  prints-table : (files : Files) → Accepted limit files → (table : ℕ → ℕ → ℕ)
+      → Follows (networkOf files) (givenOf files) (held (files .STIM)) table
+      → prints files ≡ listingOf (networkOf files .size) (endTime (files .STIM)) table
+  unfolding printed printedFor listing
+  prints-table files accepted table follows =
+      is files
+      ∙ rw accepted
+      (listing-same (networkOf files .size) (endTime (files .STIM)) (valueAt files) table
+      (λ t s l h. sym (value-unique limit files accepted table follows t s (record { low = l; high = h }))))
+
+  pub printed-demand-2 : Demand2 limit prints
+  unfolding printed printedFor
+  printed-demand-2 =
+      record {
+        lists = prints-table;
+        simulates = λ files accepted. prints-table files accepted _ (procedures-follow limit files accepted);
+        refuses = λ files number returned e. is files ∙ rw e;
+      }
 
 -- The session over the machine: what a call answers and leaves is its outcome, a contract that is a function
 module _ (fixed : Lengths) (n : Network) (m : Module) (processor slot : ℕ → ℕ) where

@@ -4,6 +4,8 @@ pub mod RightLine
 pub mod Placements
 pub mod Chains
 pub mod Value
+pub mod Ranks
+pub mod Procedures
 pub mod Accepted
 pub mod Checked
 pub mod Operands

@@ -6,7 +6,8 @@ use lib.ListN.{length, replicate}
 use Rattle.model.specs.Refusal.{fail}
 use Rattle.model.specs.Files.{Files}
 use Rattle.model.specs.Network.{Network, Signal}
-use Rattle.model.specs.Value.{Follows}
+use Rattle.model.specs.Value.{Follows, history}
+use Rattle.model.specs.Procedures.{simulated}
 use Rattle.model.specs.Module.{Module, At}
 use Rattle.model.specs.Machine.{Memory}
 use Rattle.model.specs.Stimulus.{held, endTime}
@@ -16,11 +17,16 @@ use Rattle.model.specs.Listing.{listingOf, refusalLine}
 
 -- Demand 2, of what is printed for any files.
 -- lists: "The listing holds exactly the changes of VAL(s,t)", whichever table follows the rules of VAL;
+-- simulates: and VAL(s,t) is what the unit-delay and rank-order procedures of 000 give;
 -- refuses: "the first file, in document 01's order, that breaks its conditions there is refused, and no other".
 pub record Demand2 (limit : ℕ) (prints : Files → List ℕ) : Type 0 where
   pub lists : (files : Files) → Accepted limit files → (table : ℕ → ℕ → ℕ)
       → Follows (networkOf files) (givenOf files) (held (files .STIM)) table
       → prints files ≡ listingOf (networkOf files .size) (endTime (files .STIM)) table
+  pub simulates : (files : Files) → Accepted limit files
+      → prints files
+      ≡ listingOf (networkOf files .size) (endTime (files .STIM))
+      (λ t. simulated (networkOf files) (givenOf files) (history (held (files .STIM)) t))
   pub refuses : (files : Files) (number returned : ℕ) → fileCheck limit files ≡ fail number returned
       → prints files ≡ refusalLine number returned
 

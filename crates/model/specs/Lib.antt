@@ -3,6 +3,8 @@ pub mod Files
 pub mod Network
 pub mod Netlist
 pub mod Value
+pub mod Ranks
+pub mod Procedures
 pub mod Module
 pub mod ModuleFile
 pub mod Stimulus

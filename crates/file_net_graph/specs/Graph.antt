@@ -1,8 +1,8 @@
--- The rank-order gates and their feeders as the code loads them: it mirrors private functions.
-use Prim.Native.Nat.{ℕ, zero, suc, _+_, _/_, _%_}
+-- The rank-order gates and their feeders, store by store as the code loads them. `proofs/Closed` says what graph this is.
+use Prim.Native.Nat.{ℕ, zero, suc, _+_, _*_, _/_, _%_}
 use mathlib.Core.List.{List}
 use lib.Dec.{eqb}
-use lib.ListN.{getD, set}
+use lib.ListN.{getD, set, replicate}
 use Rattle.logic.specs.Test.{one}
 use Rattle.logic.specs.Choice.{if_then_else_}
 use Rattle.model.specs.Network.{rankOrder}
@@ -24,3 +24,10 @@ feederOf net follow i =
 unfoldable pub edgesTo : List ℕ → List ℕ → List ℕ → ℕ → List ℕ
 edgesTo net follow l zero = l
 edgesTo net follow l (suc k) = set (edgesTo net follow l k) (k + 4) (feederOf net follow (k + 4))
+
+-- the arrays that `load_graph` leaves, zeros before it
+abbrev pub followOf : List ℕ → ℕ → List ℕ
+followOf net size = followTo net (replicate 4097 0) size
+
+abbrev pub edgesOf : List ℕ → ℕ → List ℕ
+edgesOf net size = edgesTo net (followOf net size) (replicate 16388 0) (4 * size)

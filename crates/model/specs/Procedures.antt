@@ -4,9 +4,9 @@ use Prim.Native.Nat.{ℕ, zero, suc, max}
 use mathlib.Core.List.{List, [], _∷_}
 use lib.Dec.{eqb}
 use Rattle.logic.specs.Choice.{if_then_else_}
 use Rattle.model.specs.Network.{Network, input, unitDelay}
 use Rattle.model.specs.Value.{evaluate, start}
-use Rattle.laws_ranks.specs.Ranks.{rankOf}
+use Rattle.model.specs.Ranks.{rankOf}
 
 -- One round of the unit delay simulation procedure: "for all s in S do .. VAL(s,t) = F(VAL(SRC(s,1),t-1),...,VAL(SRC(s,ids),t-1))".
 -- S is the unit-delay gates; before is VAL at t-1, and v is VAL at t as far as it is given.

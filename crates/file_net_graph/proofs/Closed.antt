@@ -8,24 +8,20 @@ use native.Mathlib.Decide.{ℕ-discrete, decLe}
 use lib.Dec.{eqb}
 use lib.ListN.{length, getD, set, replicate, length-set, length-replicate}
 use lib.Seq.{getD-set-same, getD-set-other}
-use borrow.Author.Tests.{eq-eqb, eqb-true}
+use borrow.Author.Tests.{eq-eqb, eqb-true, eqb-false}
 use Rattle.logic.specs.Test.{one}
 use Rattle.logic.specs.Choice.{if_then_else_}
-use Rattle.graph_ranks.specs.Graph.{Edge, Path, Graph}
+use Rattle.graph_ranks.specs.Graph.{Edge, Path, Followed, Graph}
+use Rattle.graph_ranks.proofs.Stores.{all-zero}
 use Rattle.model.specs.Network.{Signal, rankOrder, Feeds, Chain}
 use Rattle.model.specs.Netlist.{netField, network}
-use Rattle.file_net_chains.specs.Chain.{Lines}
-use Rattle.file_net_chains.specs.Graph.{followTo, feederOf, edgesTo}
+use Rattle.file_net_graph.specs.Lines.{Lines}
+use Rattle.file_net_graph.specs.Graph.{followTo, feederOf, edgesTo, followOf, edgesOf}
 
--- a list of stores at rising places: what stands where it was stored, and elsewhere
-abbrev pub zeros : ℕ → List ℕ
+abbrev zeros : ℕ → List ℕ
 zeros n = replicate n 0
 
-getD-zeros : (n i : ℕ) → getD (zeros n) i 0 ≡ 0
-getD-zeros zero i = refl
-getD-zeros (suc n) zero = refl
-getD-zeros (suc n) (suc i) = getD-zeros n i
-
+-- a list of stores at rising places: what stands where it was stored, and elsewhere
 length-follow : (net l : List ℕ) (k : ℕ) → length (followTo net l k) ≡ length l
 unfolding followTo
 length-follow net l zero = refl
@@ -80,16 +76,16 @@ one-if true e = refl
 one-if false e = absurd (omega arith)
 
 module _ (net : List ℕ) (size : ℕ) (lines : Lines net size) where
-  abbrev pub follow : List ℕ
-  follow = followTo net (zeros 4097) size
+  abbrev follow : List ℕ
+  follow = followOf net size
 
-  abbrev pub edges : List ℕ
-  edges = edgesTo net follow (zeros 16388) (4 * size)
+  abbrev edges : List ℕ
+  edges = edgesOf net size
 
-  pub follow-length : length follow ≡ 4097
+  follow-length : length follow ≡ 4097
   follow-length = length-follow net (zeros 4097) size ∙ length-replicate {A = ℕ} 4097 0
 
-  pub edges-length : length edges ≡ 16388
+  edges-length : length edges ≡ 16388
   edges-length = length-edges net follow (zeros 16388) (4 * size) ∙ length-replicate {A = ℕ} 16388 0
 
   -- a mark stands at the rank-order gates alone
@@ -104,7 +100,7 @@ module _ (net : List ℕ) (size : ℕ) (lines : Lines net size) where
       ∙ ap one (eq-eqb (netField net s 0) rankOrder (r .kind))
 
   unmarked : (s : ℕ) → (1 ≤ s → size < s) → getD follow s 0 ≡ 0
-  unmarked s h = follow-beyond net (zeros 4097) size s h ∙ getD-zeros 4097 s
+  unmarked s h = follow-beyond net (zeros 4097) size s h ∙ all-zero 4097 s
 
   rank-marked : (s : ℕ) → getD follow s 0 ≡ 1 → Rank s
   rank-marked s e = go (decLe 1 s) (decLe s size)
@@ -129,7 +125,7 @@ module _ (net : List ℕ) (size : ℕ) (lines : Lines net size) where
       (omega (arith, lines .small, length-replicate {A = ℕ} 16388 0))
 
   no-entry : (i : ℕ) → (4 ≤ i → 4 * size + 4 ≤ i) → getD edges i 0 ≡ 0
-  no-entry i h = edges-beyond net follow (zeros 16388) (4 * size) i h ∙ getD-zeros 16388 i
+  no-entry i h = edges-beyond net follow (zeros 16388) (4 * size) i h ∙ all-zero 16388 i
 
   feeder : (y j : ℕ) → j < 4
       → feederOf net follow (4 * y + j)
@@ -239,3 +235,32 @@ module _ (net : List ℕ) (size : ℕ) (lines : Lines net size) where
           go (yes a) =
               let e : Edge edges (getD edges i 0) (i / 4) = record { real = a; index = i % 4; small = omega arith; is-entry = ap (λ (k : ℕ). getD edges k 0) (omega arith) } in
               rank-of (getD edges i 0) (edge-feeds _ _ e .from) (edge-feeds _ _ e .from-rank) .high
+
+  -- the nodes that are followed are the rank-order gates
+  pub followed-signal : (s : ℕ) → Followed follow size s → Signal (network net) s
+  followed-signal s f = signal-of s (rank-marked s (f .chosen))
+
+  pub followed-gate : (s : ℕ) → Followed follow size s → network net .kind s ≡ rankOrder
+  unfolding network
+  followed-gate s f = rank-marked s (f .chosen) .kind
+
+  pub gate-followed : (s : ℕ) → Signal (network net) s → network net .kind s ≡ rankOrder → Followed follow size s
+  gate-followed s g k = let r = rank-of s g k in record { low = r .low; high = r .high; chosen = marked s r }
+
+  -- the entry for a source of a rank-order gate is the source, where it is followed, and else none
+  pub entry-cases : (P : ℕ → Type 0) (y j : ℕ) → Followed follow size y → j < 4
+      → (Followed follow size (network net .source y j) → P (network net .source y j))
+      → ((Followed follow size (network net .source y j) → ⊥) → P 0)
+      → P (getD edges (4 * y + j) 0)
+  unfolding network
+  entry-cases P y j f l some none =
+      subst P (sym (entry y j (f .low) (f .high) l ∙ feeder y j l ∙ rw (f .chosen))) (go (eqb (getD follow x 0) 1) refl)
+    where
+      x : ℕ
+      x = netField net y (8 + j)
+
+      go : (b : Bool) → eqb (getD follow x 0) 1 ≡ b → P (if b then x else 0)
+      go true e =
+          let r = rank-marked x (eqb-true (getD follow x 0) 1 e) in
+          some (record { low = r .low; high = r .high; chosen = eqb-true (getD follow x 0) 1 e })
+      go false e = none (λ g. eqb-false (getD follow x 0) 1 e (g .chosen))

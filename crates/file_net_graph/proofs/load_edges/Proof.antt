@@ -1,13 +1,13 @@
 -- The invariant: the entries 4 to 3 + k hold their feeders, and the others are as they were (`edgesTo`).
-use Rattle.file_net_chains.proofs.Loading.{edges-more, edges-end}
+use Rattle.file_net_graph.proofs.Loading.{edges-more, edges-end}
 use Prim.Native.Nat.{_≤_, _-_, _*_}
 use mathlib.Core.Path.{_≡_}
 use native.Mathlib.Omega.{arith}
 use lib.ListN.{length, length-set}
-use Rattle.file_net_chains.specs.Graph.{edgesTo}
+use Rattle.file_net_graph.specs.Graph.{edgesTo}
 use borrow.Author.Needs.{needs}
-use Rattle.file_net_chains.proofs.load_edges.Statement.{statement}
-use Rattle.file_net_chains.proofs.load_edges.Tie as tie
+use Rattle.file_net_graph.proofs.load_edges.Statement.{statement}
+use Rattle.file_net_graph.proofs.load_edges.Tie as tie
 
 abbrev Inv-loop : tie.InvT-loop
 Inv-loop net size follow edges₀ k₀ edges k =

@@ -7,13 +7,13 @@ use mathlib.Core.Logic.{⊎-elim}
 use native.Mathlib.Omega.{arith}
 use native.Mathlib.Nat.{eq-or-lt-of-le}
 use borrow.Author.Tests.{eq-eqb, ne-eqb}
 use Rattle.model.specs.Network.{Network, Signal, rankOrder}
 use Rattle.model.specs.Value.{evaluate, Step, next, VAL, history, FollowsAlways}
+use Rattle.model.specs.Ranks.{rankOf}
+use Rattle.model.specs.Procedures.{unitDelayRound, depthTo, depth, evaluateRank, ranksTo, rankOrderProcedure, specified, combined, simulated}
 use Rattle.model.proofs.Conditions.{Formed, Acyclic, Same}
 use Rattle.model.proofs.Value.{evaluate-same, source-signal, next-step, step-unique}
-use Rattle.laws_ranks.specs.Ranks.{rankOf}
-use Rattle.laws_ranks.specs.Procedures.{unitDelayRound, depthTo, depth, evaluateRank, ranksTo, rankOrderProcedure, specified, combined, simulated}
-use Rattle.laws_ranks.proofs.Ranks.{rank-follows, sources-lower}
+use Rattle.model.proofs.Ranks.{rank-follows, sources-lower}
 
 module _ (n : Network) where
   depth-to-bounds : (k s : ℕ) → 1 ≤ s → s ≤ k → rankOf n s ≤ depthTo n k

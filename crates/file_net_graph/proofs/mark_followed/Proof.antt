@@ -1,13 +1,13 @@
 -- The invariant: signals 1 to k have their marks, and the others are as they were (`followTo`).
-use Rattle.file_net_chains.proofs.Loading.{follow-more, follow-ends}
+use Rattle.file_net_graph.proofs.Loading.{follow-more, follow-ends}
 use Prim.Native.Nat.{_≤_, _-_}
 use mathlib.Core.Path.{_≡_}
 use native.Mathlib.Omega.{arith}
 use lib.ListN.{length, length-set}
-use Rattle.file_net_chains.specs.Graph.{followTo}
+use Rattle.file_net_graph.specs.Graph.{followTo}
 use borrow.Author.Needs.{needs}
-use Rattle.file_net_chains.proofs.mark_followed.Statement.{statement}
-use Rattle.file_net_chains.proofs.mark_followed.Tie as tie
+use Rattle.file_net_graph.proofs.mark_followed.Statement.{statement}
+use Rattle.file_net_graph.proofs.mark_followed.Tie as tie
 
 abbrev Inv-loop : tie.InvT-loop
 Inv-loop net size follow₀ k₀ follow k =

@@ -7,11 +7,11 @@ use native.Mathlib.Omega.{arith}
 use native.Mathlib.Decide.{decLe}
 use native.Mathlib.Nat.{eq-or-lt-of-le}
 use borrow.Author.Tests.{ne-eqb}
 use Rattle.model.specs.Network.{Network, Signal, rankOrder}
 use Rattle.model.specs.Value.{valueOf}
+use Rattle.model.specs.Ranks.{highest, Ranks, rankTo, rankOf}
 use Rattle.model.proofs.Conditions.{Formed, Acyclic}
 use Rattle.model.proofs.Value.{Within, by-walks, within, source-signal}
-use Rattle.laws_ranks.specs.Ranks.{highest, Ranks, rankTo, rankOf}
 
 -- the highest rank depends on the sources' ranks alone
 highest-same : (n : Network) (a b : ℕ → ℕ) (s j : ℕ) → ((i : ℕ) → i < j → 1 ≤ n .source s i → a (n .source s i) ≡ b (n .source s i))

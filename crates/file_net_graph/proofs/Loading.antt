@@ -1,15 +1,15 @@
 -- The stores by which the graph of the rank-order gates is loaded, and what stands in it.
-use Prim.Native.Nat.{ℕ, _+_, _/_, _%_, _≤_}
-use mathlib.Core.Path.{_≡_, sym, _∙_, ap}
+use Prim.Native.Nat.{ℕ, _+_, _*_, _/_, _%_, _≤_}
+use mathlib.Core.Path.{_≡_, sym, _∙_, ap, ap₂}
 use mathlib.Core.List.{List}
 use native.Mathlib.Omega.{arith}
 use native.Mathlib.Numerals.{add-one}
 use lib.Dec.{eqb}
-use lib.ListN.{getD, set}
+use lib.ListN.{getD, set, replicate}
 use borrow.Author.Tests.{eq-eqb, ne-eqb}
 use Rattle.logic.specs.Test.{one}
 use Rattle.model.specs.Netlist.{netField}
-use Rattle.file_net_chains.specs.Graph.{followTo, feederOf, edgesTo}
+use Rattle.file_net_graph.specs.Graph.{followTo, feederOf, edgesTo, followOf, edgesOf}
 
 module _ (net l : List ℕ) where
   pub follow-more : (follow : List ℕ) (k f v : ℕ) → follow ≡ followTo net l k → f ≡ netField net (k + 1) 0 → v ≡ one (eqb f 3)
@@ -43,3 +43,11 @@ module _ (net follow : List ℕ) (i : ℕ) where
     pub feeder-none : (getD follow source 0 ≡ 1 → ⊥) → feederOf net follow i ≡ 0
     unfolding feederOf
     feeder-none d = rw (gate, ← is, ne-eqb (getD follow source 0) 1 d)
+
+-- both arrays, from zeros
+pub loaded-graph : (net follow₀ edges₀ follow edges : List ℕ) (size : ℕ) → follow₀ ≡ replicate 4097 0 → edges₀ ≡ replicate 16388 0
+    → follow ≡ followTo net follow₀ size → edges ≡ edgesTo net follow edges₀ (4 * size)
+    → (follow ≡ followOf net size) × (edges ≡ edgesOf net size)
+loaded-graph net follow₀ edges₀ follow edges size a b marked loaded =
+    let is : follow ≡ followOf net size = marked ∙ ap (λ (l : List ℕ). followTo net l size) a in
+    (is, loaded ∙ ap₂ (λ (f l : List ℕ). edgesTo net f l (4 * size)) is b)

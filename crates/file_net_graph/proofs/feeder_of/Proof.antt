@@ -2,10 +2,10 @@
 use Prim.Native.Nat.{_/_, _%_}
 use mathlib.Core.Path.{sym}
 use native.Mathlib.Omega.{arith}
-use Rattle.file_net_chains.proofs.Loading.{feeder-other, feeder-some, feeder-none}
+use Rattle.file_net_graph.proofs.Loading.{feeder-other, feeder-some, feeder-none}
 use borrow.Author.Needs.{needs}
-use Rattle.file_net_chains.proofs.feeder_of.Statement.{statement}
-use Rattle.file_net_chains.proofs.feeder_of.Tie as tie
+use Rattle.file_net_graph.proofs.feeder_of.Statement.{statement}
+use Rattle.file_net_graph.proofs.feeder_of.Tie as tie
 
 returns : tie.Need-returns
 returns c = sym (feeder-other _ _ _ (c .if1 .taken))

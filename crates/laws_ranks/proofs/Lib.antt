@@ -1,3 +1,0 @@
-pub mod Ranks
-pub mod Procedures
-pub mod Listed
