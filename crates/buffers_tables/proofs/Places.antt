@@ -1,0 +1,62 @@
+-- The places of the tables: a byte of the panel has one signal and one column, a byte of the program one line and one column.
+use Prim.Native.Nat.{ℕ, _+_, _<_, _≤_}
+use mathlib.Core.Path.{_≡_, ap}
+use mathlib.Core.List.{List}
+use native.Mathlib.Omega.{arith}
+use lib.ListN.{getD}
+use Rattle.buffers_tables.specs.Panel.{panelLength, panelStride, kindColumn, signalStart, signalByte, columnIn, signalOf, columnOf, kindIn}
+use Rattle.buffers_tables.specs.Program.{programLength, lineStride, slotLines, lineIn, lineProcessor, lineSlot, lineColumn}
+
+-- the panel
+pub byte-is : (a : ℕ) → signalByte (signalOf a) (columnOf a) ≡ a
+byte-is a = omega arith
+
+pub column-low : (a : ℕ) → columnOf a < panelStride
+column-low a = omega arith
+
+pub signal-high : (a : ℕ) → a < panelLength → signalOf a ≤ 4096
+signal-high a l = omega arith
+
+module _ (s column : ℕ) (low : column < panelStride) where
+  pub at-signal : signalOf (signalByte s column) ≡ s
+  at-signal = omega arith
+
+  pub at-column : columnOf (signalByte s column) ≡ column
+  at-column = omega arith
+
+  pub byte-low : s ≤ 4096 → signalByte s column < panelLength
+  byte-low high = omega arith
+
+  pub byte-same : (r other : ℕ) → other < panelStride → signalByte s column ≡ signalByte r other → (s ≡ r) × (column ≡ other)
+  byte-same r other h e = (omega arith, omega arith)
+
+-- the kind is in the first column
+pub kind-column : (panel : List ℕ) (s : ℕ) → kindIn panel s ≡ columnIn panel s kindColumn
+kind-column panel s = let q : signalStart s ≡ signalByte s kindColumn = omega arith in ap (λ (x : ℕ). getD panel x 0) q
+
+-- the program
+module _ (a : ℕ) where
+  pub line-is : lineIn (lineProcessor a) (lineSlot a) + lineColumn a ≡ a
+  line-is = omega arith
+
+  pub line-processor-low : lineProcessor a < slotLines
+  line-processor-low = omega arith
+
+  pub line-column-low : lineColumn a < lineStride
+  line-column-low = omega arith
+
+  pub line-slot-low : a < programLength → lineSlot a < 256
+  line-slot-low l = omega arith
+
+module _ (p i column : ℕ) (few : p < slotLines) (low : column < lineStride) where
+  pub at-line-processor : lineProcessor (lineIn p i + column) ≡ p
+  at-line-processor = omega arith
+
+  pub at-line-slot : lineSlot (lineIn p i + column) ≡ i
+  at-line-slot = omega arith
+
+  pub at-line-column : lineColumn (lineIn p i + column) ≡ column
+  at-line-column = omega arith
+
+  pub line-low : i < 256 → lineIn p i + column < programLength
+  line-low short = omega arith
