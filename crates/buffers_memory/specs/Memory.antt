@@ -21,12 +21,18 @@ memoryLength = 20480
 abbrev pub blank : ℕ
 blank = 4
 
--- the bytes of a processor, and of each of its parts
+-- the bytes of a processor, those of each of its parts, its parts, and the parts of all processors
 abbrev pub processorStride : ℕ
 processorStride = 1280
 
 abbrev pub partStride : ℕ
 partStride = 256
+
+abbrev pub processorParts : ℕ
+processorParts = 5
+
+abbrev pub memoryParts : ℕ
+memoryParts = 80
 
 -- the byte of location k of a part of processor p
 abbrev pub place : ℕ → ℕ → ℕ → ℕ

@@ -8,12 +8,19 @@ ghost use Rattle.instruction.specs.Operand.{partOf, locationOf};
 ghost use Rattle.buffers_memory.specs.Memory.{memoryLength, partStride, blank, place, memoryOf, fetchedPart, written, here, below, withMemory, MemoryBytes};
 use instruction::Operand;
 
-// The length of the memory, the bytes of a processor and those of each of its parts.
+// The length of the memory, the bytes of a processor, those of each of its parts, its parts, and the parts of all processors.
 pub const MEMORY_BYTES: usize = 20480;
 
 pub const PROCESSOR_STRIDE: usize = 1280;
 
 pub const PART_STRIDE: usize = 256;
+
+pub const PROCESSOR_PARTS: usize = 5;
+
+pub const MEMORY_PARTS: usize = 80;
+
+// The fifth part, which is none.
+pub const BLANK: usize = 4;
 
 // The parts of the present half, which a slot stores into.
 pub const LOCAL_PRESENT: usize = 1;

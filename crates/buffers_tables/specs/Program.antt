@@ -10,12 +10,15 @@ use Rattle.words.specs.Word.{word}
 abbrev pub programLength : ℕ
 programLength = 53248
 
--- the bytes of a line, and the lines of a slot
+-- the bytes of a line, the lines of a slot, and the bytes of these
 abbrev pub lineStride : ℕ
 lineStride = 13
 
 abbrev pub slotLines : ℕ
 slotLines = 16
+
+abbrev pub slotStride : ℕ
+slotStride = lineStride * slotLines
 
 -- where the numbers of a line stand in it: the pairs of the operands and of the send, and the sender. The signal is first.
 abbrev pub operandsColumn : ℕ
@@ -24,13 +27,19 @@ operandsColumn = 2
 abbrev pub pairStride : ℕ
 pairStride = 2
 
+abbrev pub operandColumn : ℕ → ℕ
+operandColumn j = operandsColumn + pairStride * j
+
 abbrev pub sendColumn : ℕ
 sendColumn = 10
 
 abbrev pub senderColumn : ℕ
 senderColumn = 12
 
--- where the line of processor p and slot i begins
+-- where the lines of slot i begin, and where the line of processor p and slot i does
+abbrev pub slotStart : ℕ → ℕ
+slotStart i = slotStride * i
+
 abbrev pub lineIn : ℕ → ℕ → ℕ
 lineIn p i = lineStride * (slotLines * i + p)
 

@@ -42,12 +42,20 @@ pub const PROCESSOR: usize = 8;
 
 pub const SLOT: usize = 9;
 
-// The bytes of a line, the lines of a slot, and the columns of a line's numbers. The signal is first.
+// The bytes of a line, the lines of a slot, the bytes of these, and the columns of a line's numbers. The signal is first.
 pub const LINE_STRIDE: usize = 13;
 
 pub const SLOT_LINES: usize = 16;
 
-pub const OPERANDS: usize = 2;
+pub const SLOT_STRIDE: usize = 208;
+
+pub const OPERAND1: usize = 2;
+
+pub const OPERAND2: usize = 4;
+
+pub const OPERAND3: usize = 6;
+
+pub const OPERAND4: usize = 8;
 
 pub const SEND: usize = 10;
 
@@ -204,13 +212,12 @@ pub fn instruction_in(program: &[u8], processor: usize, slot: Slot) -> Instructi
     ensures { λ r. ⌜ r ≡ instructionIn (now (program .entry)) processor (slot .0) ⌝ }
 {
     let at = line_offset(processor, slot);
-    let operands = at + OPERANDS;
     Instruction {
         signal: words::word_at(program, at),
-        a1: named_in(program, operands),
-        a2: named_in(program, operands + 2),
-        a3: named_in(program, operands + 4),
-        a4: named_in(program, operands + 6),
+        a1: named_in(program, at + OPERAND1),
+        a2: named_in(program, at + OPERAND2),
+        a3: named_in(program, at + OPERAND3),
+        a4: named_in(program, at + OPERAND4),
         send: named_in(program, at + SEND),
         sender: program[at + SENDER],
     }
