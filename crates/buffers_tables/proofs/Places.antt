@@ -1,10 +1,10 @@
 -- The places of the tables: a byte of the panel has one signal and one column, a byte of the program one line and one column.
-use Prim.Native.Nat.{ℕ, _+_, _<_, _≤_}
-use mathlib.Core.Path.{_≡_, ap}
+use Prim.Native.Nat.{ℕ, zero, suc, _+_, _<_, _≤_}
+use mathlib.Core.Path.{_≡_, refl, ap}
 use mathlib.Core.List.{List}
 use native.Mathlib.Omega.{arith}
 use lib.ListN.{getD}
-use Rattle.buffers_tables.specs.Panel.{panelLength, panelStride, kindColumn, signalStart, signalByte, columnIn, signalOf, columnOf, kindIn}
+use Rattle.buffers_tables.specs.Panel.{panelLength, panelStride, signalsPlace, processorsPlace, slotsPlace, watchedPlace, headBytes, kindColumn, signalStart, signalByte, columnIn, signalOf, columnOf, kindIn}
 use Rattle.buffers_tables.specs.Program.{programLength, lineStride, slotLines, lineIn, lineProcessor, lineSlot, lineColumn}
 
 -- the panel
@@ -33,6 +33,22 @@ module _ (s column : ℕ) (low : column < panelStride) where
 -- the kind is in the first column
 pub kind-column : (panel : List ℕ) (s : ℕ) → kindIn panel s ≡ columnIn panel s kindColumn
 kind-column panel s = let q : signalStart s ≡ signalByte s kindColumn = omega arith in ap (λ (x : ℕ). getD panel x 0) q
+
+-- of the session's bytes with 0 cycles finished and mask 0, watching signal 1, those that are 0
+pub head-zeros : (n p c column : ℕ) → (column ≡ signalsPlace → ⊥) → (column ≡ signalsPlace + 1 → ⊥) → (column ≡ processorsPlace → ⊥)
+    → (column ≡ slotsPlace → ⊥) → (column ≡ slotsPlace + 1 → ⊥) → (column ≡ watchedPlace → ⊥) → column < panelStride
+    → getD (headBytes n p c 0 1 0) column 0 ≡ 0
+head-zeros n p c zero d0 d1 d2 d3 d4 d7 h = absurd (d0 refl)
+head-zeros n p c (suc zero) d0 d1 d2 d3 d4 d7 h = absurd (d1 refl)
+head-zeros n p c (suc (suc zero)) d0 d1 d2 d3 d4 d7 h = absurd (d2 refl)
+head-zeros n p c (suc (suc (suc zero))) d0 d1 d2 d3 d4 d7 h = absurd (d3 refl)
+head-zeros n p c (suc (suc (suc (suc zero)))) d0 d1 d2 d3 d4 d7 h = absurd (d4 refl)
+head-zeros n p c (suc (suc (suc (suc (suc zero))))) d0 d1 d2 d3 d4 d7 h = refl
+head-zeros n p c (suc (suc (suc (suc (suc (suc zero)))))) d0 d1 d2 d3 d4 d7 h = refl
+head-zeros n p c (suc (suc (suc (suc (suc (suc (suc zero))))))) d0 d1 d2 d3 d4 d7 h = absurd (d7 refl)
+head-zeros n p c (suc (suc (suc (suc (suc (suc (suc (suc zero)))))))) d0 d1 d2 d3 d4 d7 h = refl
+head-zeros n p c (suc (suc (suc (suc (suc (suc (suc (suc (suc zero))))))))) d0 d1 d2 d3 d4 d7 h = refl
+head-zeros n p c (suc (suc (suc (suc (suc (suc (suc (suc (suc (suc column)))))))))) d0 d1 d2 d3 d4 d7 h = absurd (omega arith)
 
 -- the program
 module _ (a : ℕ) where

@@ -1,6 +1,6 @@
 -- The bytes of the panel (docs/PANEL.md): ten for the session, and ten for each signal s at 10 * s.
 use Prim.Native.Nat.{ℕ, _+_, _*_, _/_, _%_}
-use mathlib.Core.List.{List}
+use mathlib.Core.List.{List, [], _∷_}
 use lib.ListN.{getD}
 use Rattle.words.specs.Word.{word}
 use Rattle.gates.specs.declared.Gate.{Gate}
@@ -48,6 +48,17 @@ watchedIn panel = word panel watchedPlace
 
 abbrev pub maskIn : List ℕ → ℕ
 maskIn panel = getD panel maskPlace 0
+
+-- the session's bytes in their order
+abbrev pub headBytes : ℕ → ℕ → ℕ → ℕ → ℕ → ℕ → List ℕ
+headBytes signals processors slots finished watched mask =
+    signals % 256 ∷ signals / 256
+    ∷ processors
+    ∷ slots % 256 ∷ slots / 256
+    ∷ finished % 256 ∷ finished / 256
+    ∷ watched % 256 ∷ watched / 256
+    ∷ mask
+    ∷ []
 
 -- where the numbers of signal s begin, and the columns in which they stand: kind, f and g1 to g5 as in NET, the value in hand, the
 -- processor and the slot of its place
@@ -105,3 +116,12 @@ processorIn panel s = columnIn panel s processorColumn
 
 abbrev pub slotIn : List ℕ → ℕ → ℕ
 slotIn panel s = columnIn panel s slotColumn
+
+-- the bytes of a signal in their order
+abbrev pub signalBytes : ℕ → Gate → ℕ → ℕ → ℕ → List ℕ
+signalBytes kind codes hand processor slot =
+    kind
+    ∷ codes .f ∷ codes .g1 ∷ codes .g2 ∷ codes .g3 ∷ codes .g4 ∷ codes .g5
+    ∷ hand
+    ∷ processor ∷ slot
+    ∷ []

@@ -1,8 +1,9 @@
 -- The bytes of the program (docs/PANEL.md): 13 for each slot i and processor p, a line of MOD from its third field on, a byte for each
 -- number and two for the signal. The lines of a slot stand together, since all processors execute it at once.
 use Prim.Native.Nat.{ℕ, _+_, _*_, _/_, _%_}
-use mathlib.Core.List.{List}
+use mathlib.Core.List.{List, [], _∷_}
 use lib.ListN.{getD}
+use Rattle.model.specs.Module.{Module}
 use Rattle.instruction.specs.Operand.{operandOf}
 use Rattle.instruction.specs.declared.Instruction.{Instruction}
 use Rattle.words.specs.Word.{word}
@@ -84,3 +85,15 @@ instructionIn program p i =
       send = operandOf (sendPartAt program p i) (sendLocationAt program p i);
       sender = senderAt program p i;
     }
+
+-- the bytes of a line in their order: its signal, the pairs of its operands and of its send, the processor received from
+abbrev pub lineBytes : Module → ℕ → ℕ → List ℕ
+lineBytes m p i =
+    m .signal p i % 256 ∷ m .signal p i / 256
+    ∷ m .part p i 0 ∷ m .location p i 0
+    ∷ m .part p i 1 ∷ m .location p i 1
+    ∷ m .part p i 2 ∷ m .location p i 2
+    ∷ m .part p i 3 ∷ m .location p i 3
+    ∷ m .sendPart p i ∷ m .sendLocation p i
+    ∷ m .sender p i
+    ∷ []

@@ -33,7 +33,9 @@ pub const WATCHED: usize = 7;
 
 pub const MASK: usize = 9;
 
-// The columns of a signal's numbers. The kind is first.
+// The columns of a signal's numbers.
+pub const KIND: usize = 0;
+
 pub const CODES: usize = 1;
 
 pub const HAND: usize = 7;
