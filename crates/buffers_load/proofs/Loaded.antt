@@ -1,6 +1,6 @@
 -- What the loaded buffers hold: the module and the network of the accepted files, each signal's value in hand and its place, and tables in
 -- range.
-use Prim.Native.Nat.{ℕ, zero, suc, _+_, _*_, _/_, _%_, _<_, _≤_}
+use Prim.Native.Nat.{ℕ, zero, suc, _+_, _/_, _%_, _<_, _≤_}
 use mathlib.Core.Path.{_≡_, refl, _∙_, ap}
 use mathlib.Core.List.{List}
 use mathlib.Core.Logic.{⊎-map}
@@ -19,11 +19,11 @@ use Rattle.model.specs.Acceptance.{panelLimit, networkOf, moduleOfFiles, givenO
 use Rattle.model.proofs.Accepted.{mod-accepted, mod-processors, mod-slots, mod-scheduled}
 use Rattle.model.specs.Checked.{Checked}
 use Rattle.model.proofs.Checked.{files-checked, checked-size}
-use Rattle.buffers_tables.specs.Panel.{panelLength, signalsIn, slotsIn, finishedIn, watchedIn, maskIn, kindIn, codesIn, handIn, processorIn, slotIn}
-use Rattle.buffers_tables.specs.Program.{programLength, lineIn, signalAt, partAt, locationAt}
+use Rattle.buffers_tables.specs.Panel.{panelLength, panelStride, signalsPlace, processorsPlace, slotsPlace, finishedPlace, watchedPlace, maskPlace, headBytes, kindColumn, codesColumn, handColumn, processorColumn, slotColumn, signalStart, signalByte, signalOf, columnOf, signalsIn, slotsIn, finishedIn, watchedIn, maskIn, kindIn, codesIn, handIn, processorIn, slotIn}
+use Rattle.buffers_tables.specs.Program.{programLength, lineStride, operandColumn, sendColumn, senderColumn, lineIn, lineProcessor, lineSlot, lineColumn, lineBytes, signalAt, partAt, locationAt}
 use Rattle.buffers_tables.specs.Tables.{moduleIn, networkIn, Tables}
 use Rattle.buffers_tables.specs.Holding.{SameLines, Holding}
-use Rattle.buffers_load_files.specs.Loaded.{timeZero, placeOf, headBytes, signalBytes, panelByte, panelWith, panelOf, lineBytes, programByte, programFrom, programOf}
+use Rattle.buffers_load_files.specs.Loaded.{timeZero, placeOf, placedBytes, panelByte, panelWith, panelOf, programByte, programFrom, programOf}
 use Rattle.buffers_load_files.specs.Checked.{ModuleChecked}
 use Rattle.buffers_load_program.proofs.Program.{byte-within}
 use Rattle.buffers_load_panel.proofs.Panel.{panel-signal}
@@ -63,29 +63,29 @@ pub record SameSignals (a b : Network) (m : Module) (panel : List ℕ) (zeroth :
   pub places : (s : ℕ) → Signal b s → m .signal (processorIn panel s) (slotIn panel s) ≡ s
 
 -- the bytes of a line
-pub program-byte : (modfile : List ℕ) (p i c x : ℕ) → p < 16 → i < 256 → c < 13 → x ≡ lineIn p i + c
+pub program-byte : (modfile : List ℕ) (p i c x : ℕ) → p < 16 → i < 256 → c < lineStride → x ≡ lineIn p i + c
     → getD (programFrom modfile) x 0 ≡ programByte modfile p i c
 unfolding programFrom
 program-byte modfile p i c x low-p low-i low-c e =
-    let a : x / 13 % 16 ≡ p = omega arith in
-    let b : x / 13 / 16 ≡ i = omega arith in
-    let d : x % 13 ≡ c = omega arith in
-    listed-at programLength (λ y. programByte modfile (y / 13 % 16) (y / 13 / 16) (y % 13)) x (omega arith)
-    ∙ ap (λ (y : ℕ). programByte modfile y (x / 13 / 16) (x % 13)) a
-    ∙ ap (λ (y : ℕ). programByte modfile p y (x % 13)) b
+    let a : lineProcessor x ≡ p = omega arith in
+    let b : lineSlot x ≡ i = omega arith in
+    let d : lineColumn x ≡ c = omega arith in
+    listed-at programLength (λ y. programByte modfile (lineProcessor y) (lineSlot y) (lineColumn y)) x (omega arith)
+    ∙ ap (λ (y : ℕ). programByte modfile y (lineSlot x) (lineColumn x)) a
+    ∙ ap (λ (y : ℕ). programByte modfile p y (lineColumn x)) b
     ∙ ap (λ (y : ℕ). programByte modfile p i y) d
 
 -- the bytes of a signal, and of the session at 0
-pub panel-byte : (files : Files) (s c x : ℕ) → s ≤ 4096 → c < 10 → x ≡ 10 * s + c
+pub panel-byte : (files : Files) (s c x : ℕ) → s ≤ 4096 → c < panelStride → x ≡ signalByte s c
     → getD (panelOf files) x 0
     ≡ panelByte (files .NET) (modProcessors (files .MOD)) (modSlots (files .MOD)) (placeOf (files .MOD)) (timeZero files) s c
 unfolding panelOf panelWith
 panel-byte files s c x low-s low-c e =
-    let a : x / 10 ≡ s = omega arith in
-    let b : x % 10 ≡ c = omega arith in
+    let a : signalOf x ≡ s = omega arith in
+    let b : columnOf x ≡ c = omega arith in
     let byte = panelByte (files .NET) (modProcessors (files .MOD)) (modSlots (files .MOD)) (placeOf (files .MOD)) (timeZero files) in
-    listed-at panelLength (λ y. byte (y / 10) (y % 10)) x (omega arith)
-    ∙ ap (λ (y : ℕ). byte y (x % 10)) a
+    listed-at panelLength (λ y. byte (signalOf y) (columnOf y)) x (omega arith)
+    ∙ ap (λ (y : ℕ). byte y (columnOf x)) a
     ∙ ap (λ (y : ℕ). byte s y) b
 
 module _ {limit : ℕ} (few : limit ≤ panelLimit) (files : Files) (accepted : Accepted limit files) where
@@ -103,7 +103,7 @@ module _ {limit : ℕ} (few : limit ≤ panelLimit) (files : Files) (accepted : 
 
   -- a byte of a line of the module
   module _ (p i : ℕ) (a : At (moduleOfFiles files) p i) where
-    line-there : (c x : ℕ) → c < 13 → x ≡ lineIn p i + c → getD (programOf files) x 0 ≡ getD (lineBytes (moduleOfFiles files) p i) c 0
+    line-there : (c x : ℕ) → c < lineStride → x ≡ lineIn p i + c → getD (programOf files) x 0 ≡ getD (lineBytes (moduleOfFiles files) p i) c 0
     unfolding moduleOf
     line-there c x low e =
         program-byte modfile p i c x (omega (arith, a .processor, mod-processors (networkOf files) modfile m)) (omega (arith, a .slot, mod-slots (networkOf files) modfile m)) low e
@@ -113,78 +113,78 @@ module _ {limit : ℕ} (few : limit ≤ panelLimit) (files : Files) (accepted : 
     signal-there = omega (arith, line-there 0 (lineIn p i) (omega arith) (omega arith), line-there 1 (lineIn p i + 1) (omega arith) refl)
 
     part-there : (j : ℕ) → j < 4 → partAt (programOf files) p i j ≡ moduleOfFiles files .part p i j
-    part-there zero h = line-there 2 _ (omega arith) (omega arith)
-    part-there (suc zero) h = line-there 4 _ (omega arith) (omega arith)
-    part-there (suc (suc zero)) h = line-there 6 _ (omega arith) (omega arith)
-    part-there (suc (suc (suc zero))) h = line-there 8 _ (omega arith) (omega arith)
+    part-there zero h = line-there (operandColumn 0) _ (omega arith) (omega arith)
+    part-there (suc zero) h = line-there (operandColumn 1) _ (omega arith) (omega arith)
+    part-there (suc (suc zero)) h = line-there (operandColumn 2) _ (omega arith) (omega arith)
+    part-there (suc (suc (suc zero))) h = line-there (operandColumn 3) _ (omega arith) (omega arith)
     part-there (suc (suc (suc (suc j)))) h = absurd (omega arith)
 
     location-there : (j : ℕ) → j < 4 → locationAt (programOf files) p i j ≡ moduleOfFiles files .location p i j
-    location-there zero h = line-there 3 _ (omega arith) (omega arith)
-    location-there (suc zero) h = line-there 5 _ (omega arith) (omega arith)
-    location-there (suc (suc zero)) h = line-there 7 _ (omega arith) (omega arith)
-    location-there (suc (suc (suc zero))) h = line-there 9 _ (omega arith) (omega arith)
+    location-there zero h = line-there (operandColumn 0 + 1) _ (omega arith) (omega arith)
+    location-there (suc zero) h = line-there (operandColumn 1 + 1) _ (omega arith) (omega arith)
+    location-there (suc (suc zero)) h = line-there (operandColumn 2 + 1) _ (omega arith) (omega arith)
+    location-there (suc (suc (suc zero))) h = line-there (operandColumn 3 + 1) _ (omega arith) (omega arith)
     location-there (suc (suc (suc (suc j)))) h = absurd (omega arith)
 
   -- a byte of the session
-  head-there : (c : ℕ) → c < 10
-      → getD (panelOf files) c 0 ≡ getD (headBytes (netSize net) (modProcessors modfile) (modSlots modfile)) c 0
+  head-there : (c : ℕ) → c < panelStride
+      → getD (panelOf files) c 0 ≡ getD (headBytes (netSize net) (modProcessors modfile) (modSlots modfile) 0 1 0) c 0
   unfolding panelByte
   head-there c h = panel-byte files 0 c c (omega arith) h (omega arith)
 
   size-there : signalsIn (panelOf files) ≡ netSize net
-  size-there = omega (arith, head-there 0 (omega arith), head-there 1 (omega arith))
+  size-there = omega (arith, head-there signalsPlace (omega arith), head-there (signalsPlace + 1) (omega arith))
 
   slots-there : slotsIn (panelOf files) ≡ modSlots modfile
-  slots-there = omega (arith, head-there 3 (omega arith), head-there 4 (omega arith))
+  slots-there = omega (arith, head-there slotsPlace (omega arith), head-there (slotsPlace + 1) (omega arith))
 
   pub loaded-module : SameLines (moduleIn (panelOf files) (programOf files)) (moduleOfFiles files)
   unfolding moduleIn moduleOf
   loaded-module =
       record {
-        processors = head-there 2 (omega arith);
+        processors = head-there processorsPlace (omega arith);
         slots = slots-there;
         signals = λ p i a. signal-there p i a;
         parts = λ p i j a h. part-there p i a j h;
         locations = λ p i j a h. location-there p i a j h;
-        send-parts = λ p i a. line-there p i a 10 _ (omega arith) (omega arith);
-        send-locations = λ p i a. line-there p i a 11 _ (omega arith) (omega arith);
-        senders = λ p i a. line-there p i a 12 _ (omega arith) (omega arith);
+        send-parts = λ p i a. line-there p i a sendColumn _ (omega arith) (omega arith);
+        send-locations = λ p i a. line-there p i a (sendColumn + 1) _ (omega arith) (omega arith);
+        senders = λ p i a. line-there p i a senderColumn _ (omega arith) (omega arith);
       }
 
   -- a byte of a signal
   module _ (s : ℕ) (g : Signal (networkOf files) s) where
-    pub signal-byte : (c x : ℕ) → c < 10 → x ≡ 10 * s + c
+    pub signal-byte : (c x : ℕ) → c < panelStride → x ≡ signalByte s c
         → getD (panelOf files) x 0
-        ≡ getD (signalBytes net s (timeZero files s) (placeOf modfile s / modSlots modfile) (placeOf modfile s % modSlots modfile)) c 0
+        ≡ getD (placedBytes net s (timeZero files s) (placeOf modfile s) (modSlots modfile)) c 0
     unfolding network
     signal-byte c x low e =
         panel-byte files s c x (omega (arith, g .high, checked-size net n)) low e
         ∙ panel-signal net (modProcessors modfile) (modSlots modfile) (placeOf modfile) (timeZero files) c s (λ (z : s ≡ 0). omega (arith, g .low)) (g .high)
 
     kind-there : kindIn (panelOf files) s ≡ netField net s 0
-    kind-there = signal-byte 0 (10 * s) (omega arith) (omega arith)
+    kind-there = signal-byte kindColumn (signalStart s) (omega arith) (omega arith)
 
     codes-there : codesIn (panelOf files) s ≡ codes net s
     codes-there =
         cc (
-          signal-byte 1 (10 * s + 1) (omega arith) refl,
-          signal-byte 2 (10 * s + 2) (omega arith) refl,
-          signal-byte 3 (10 * s + 3) (omega arith) refl,
-          signal-byte 4 (10 * s + 4) (omega arith) refl,
-          signal-byte 5 (10 * s + 5) (omega arith) refl,
-          signal-byte 6 (10 * s + 6) (omega arith) refl,
+          signal-byte codesColumn (signalByte s codesColumn) (omega arith) refl,
+          signal-byte (codesColumn + 1) (signalByte s (codesColumn + 1)) (omega arith) refl,
+          signal-byte (codesColumn + 2) (signalByte s (codesColumn + 2)) (omega arith) refl,
+          signal-byte (codesColumn + 3) (signalByte s (codesColumn + 3)) (omega arith) refl,
+          signal-byte (codesColumn + 4) (signalByte s (codesColumn + 4)) (omega arith) refl,
+          signal-byte (codesColumn + 5) (signalByte s (codesColumn + 5)) (omega arith) refl,
         )
 
     hand-there : handIn (panelOf files) s ≡ start (networkOf files) (givenOf files) s
     unfolding network
-    hand-there = signal-byte 7 (10 * s + 7) (omega arith) refl ∙ zeroth-is files s (g .low) (g .high)
+    hand-there = signal-byte handColumn (signalByte s handColumn) (omega arith) refl ∙ zeroth-is files s (g .low) (g .high)
 
     processor-there : processorIn (panelOf files) s ≡ placeOf modfile s / modSlots modfile
-    processor-there = signal-byte 8 (10 * s + 8) (omega arith) refl
+    processor-there = signal-byte processorColumn (signalByte s processorColumn) (omega arith) refl
 
     slot-there : slotIn (panelOf files) s ≡ placeOf modfile s % modSlots modfile
-    slot-there = signal-byte 9 (10 * s + 9) (omega arith) refl
+    slot-there = signal-byte slotColumn (signalByte s slotColumn) (omega arith) refl
 
   pub loaded-network : SameSignals (networkIn (panelOf files) (programOf files)) (networkOf files) (moduleOfFiles files)
       (panelOf files) (start (networkOf files) (givenOf files))
@@ -212,7 +212,7 @@ module _ {limit : ℕ} (few : limit ≤ panelLimit) (files : Files) (accepted : 
         panel-size = listed-length panelLength _;
         program-size = listed-length programLength _;
         signals-high = omega (arith, size-there, checked-size net n);
-        processors-high = omega (arith, head-there 2 (omega arith), mod-processors (networkOf files) modfile m);
+        processors-high = omega (arith, head-there processorsPlace (omega arith), mod-processors (networkOf files) modfile m);
         slots-high = omega (arith, slots-there, mod-slots (networkOf files) modfile m);
         laid = same-laid loaded-module (loaded-network .size) (mod-scheduled (networkOf files) modfile m .laid);
       }
@@ -230,7 +230,7 @@ module _ {limit : ℕ} (few : limit ≤ panelLimit) (files : Files) (accepted : 
   -- the session is fresh: "with 0 cycles finished", "watch signal 1, mask 0"
   pub loaded-head : (finishedIn (panelOf files) ≡ 0) × (watchedIn (panelOf files) ≡ 1) × (maskIn (panelOf files) ≡ 0)
   loaded-head = (
-    omega (arith, head-there 5 (omega arith), head-there 6 (omega arith)),
-    omega (arith, head-there 7 (omega arith), head-there 8 (omega arith)),
-    head-there 9 (omega arith),
+    omega (arith, head-there finishedPlace (omega arith), head-there (finishedPlace + 1) (omega arith)),
+    omega (arith, head-there watchedPlace (omega arith), head-there (watchedPlace + 1) (omega arith)),
+    head-there maskPlace (omega arith),
   )

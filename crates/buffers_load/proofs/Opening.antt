@@ -1,5 +1,5 @@
 -- The buffers by an array of the time 0 values are the buffers by the files: only the signals 1 to N are read from the array.
-use Prim.Native.Nat.{ℕ, zero, suc, _/_, _%_, _<_, _≤_}
+use Prim.Native.Nat.{ℕ, zero, suc, _<_, _≤_}
 use mathlib.Core.Path.{_≡_, refl, sym, _∙_, ap}
 use mathlib.Core.Bool.{Bool, true, false}
 use mathlib.Core.List.{List}
@@ -20,17 +20,17 @@ use Rattle.model.specs.ModuleFile.{modField, modIndex, modProcessors, modSlots,
 use Rattle.model.specs.Acceptance.{networkOf, givenOf}
 use Rattle.model.specs.Checked.{Checked}
 use Rattle.model.proofs.Accepted.{mod-slot}
-use Rattle.buffers_memory.specs.Memory.{memoryLength, within, written}
-use Rattle.buffers_memory.proofs.Written.{Place}
+use Rattle.buffers_memory.specs.Memory.{memoryLength, byteProcessor, bytePart, byteLocation, within, written}
+use Rattle.buffers_memory.proofs.Written.{Place, byte-place}
 use Rattle.buffers_memory.proofs.Within.{within-true}
-use Rattle.buffers_tables.specs.Panel.{panelLength}
+use Rattle.buffers_tables.specs.Panel.{panelLength, signalOf, columnOf}
 use Rattle.buffers_load_files.specs.Loaded.{timeZeroFrom, timeZero, placeOf, panelWith, panelOf, openingWith, openingBytes}
 use Rattle.buffers_load_files.specs.Checked.{ModuleChecked, valueIn}
 use Rattle.buffers_load_memory.specs.Bytes.{sentValue, openingByte}
 use Rattle.buffers_load_files.proofs.Fields.{schedules, is-at}
 use Rattle.buffers_load_files.proofs.Arrays.{listed-same, array-at, in-array}
 use Rattle.buffers_load_panel.proofs.Panel.{panel-same}
-use Rattle.buffers_load_memory.proofs.Memory.{place-there, byte-outside, byte-local, byte-sent-earlier, byte-sent-present, byte-other, nothing-sent, something-sent, sender-below, location-below}
+use Rattle.buffers_load_memory.proofs.Memory.{byte-outside, byte-local, byte-sent-earlier, byte-sent-present, byte-other, nothing-sent, something-sent, sender-below, location-below}
 
 -- the time 0 value of a signal, and of none
 module _ (files : Files) where
@@ -61,8 +61,8 @@ module _ (files : Files) (values : List ℕ) (e : values ≡ listed 4097 (timeZe
     unfolding panelOf panelWith
     panel-zeroth =
         listed-same panelLength _ _
-        (λ a b. panel-same net (modProcessors modfile) (modSlots modfile) (placeOf modfile) (valueIn values) (a % 10) (placeOf modfile) (timeZero files)
-        (λ s l h. refl) (λ s l h. array-at (timeZero files) values e s (in-array net checked s h)) (a / 10))
+        (λ a b. panel-same net (modProcessors modfile) (modSlots modfile) (placeOf modfile) (valueIn values) (columnOf a) (placeOf modfile) (timeZero files)
+        (λ s l h. refl) (λ s l h. array-at (timeZero files) values e s (in-array net checked s h)) (signalOf a))
 
     value-same : (s : ℕ) → s ≤ netSize net → valueOf (valueIn values) s ≡ valueOf (start (networkOf files) (givenOf files)) s
     value-same zero h = refl
@@ -96,29 +96,29 @@ module _ (files : Files) (values : List ℕ) (e : values ≡ listed 4097 (timeZe
               ∙ sym (something-sent modfile _ p k sender refl d _ refl)
 
       byte-same : (a : ℕ) → a < memoryLength
-          → openingByte modfile (valueIn values) (a / 1280) (a % 1280 / 256) (a % 256)
-          ≡ openingByte modfile (start (networkOf files) (givenOf files)) (a / 1280) (a % 1280 / 256) (a % 256)
-      byte-same a b = go (within (modProcessors modfile) (modSlots modfile) (a / 1280) (a % 256)) refl
+          → openingByte modfile (valueIn values) (byteProcessor a) (bytePart a) (byteLocation a)
+          ≡ openingByte modfile (start (networkOf files) (givenOf files)) (byteProcessor a) (bytePart a) (byteLocation a)
+      byte-same a b = go (within (modProcessors modfile) (modSlots modfile) (byteProcessor a) (byteLocation a)) refl
         where
-          there : Place (a / 1280) (a % 1280 / 256) (a % 256)
-          there = place-there a b
+          there : Place (byteProcessor a) (bytePart a) (byteLocation a)
+          there = byte-place a b
 
-          go : (w : Bool) → within (modProcessors modfile) (modSlots modfile) (a / 1280) (a % 256) ≡ w
-              → openingByte modfile (valueIn values) (a / 1280) (a % 1280 / 256) (a % 256)
-              ≡ openingByte modfile (start (networkOf files) (givenOf files)) (a / 1280) (a % 1280 / 256) (a % 256)
+          go : (w : Bool) → within (modProcessors modfile) (modSlots modfile) (byteProcessor a) (byteLocation a) ≡ w
+              → openingByte modfile (valueIn values) (byteProcessor a) (bytePart a) (byteLocation a)
+              ≡ openingByte modfile (start (networkOf files) (givenOf files)) (byteProcessor a) (bytePart a) (byteLocation a)
           go false w = byte-outside modfile _ there w ∙ sym (byte-outside modfile _ there w)
           go true w =
-              parts (ℕ-discrete (a % 1280 / 256) 0) (ℕ-discrete (a % 1280 / 256) 2) (ℕ-discrete (a % 1280 / 256) 3)
+              parts (ℕ-discrete (bytePart a) 0) (ℕ-discrete (bytePart a) 2) (ℕ-discrete (bytePart a) 3)
             where
-              low-p : a / 1280 < modProcessors modfile
+              low-p : byteProcessor a < modProcessors modfile
               low-p = within-true _ _ _ _ w .0
 
-              low-k : a % 256 < modSlots modfile
+              low-k : byteLocation a < modSlots modfile
               low-k = within-true _ _ _ _ w .1
 
-              parts : Dec (a % 1280 / 256 ≡ 0) → Dec (a % 1280 / 256 ≡ 2) → Dec (a % 1280 / 256 ≡ 3)
-                  → openingByte modfile (valueIn values) (a / 1280) (a % 1280 / 256) (a % 256)
-                  ≡ openingByte modfile (start (networkOf files) (givenOf files)) (a / 1280) (a % 1280 / 256) (a % 256)
+              parts : Dec (bytePart a ≡ 0) → Dec (bytePart a ≡ 2) → Dec (bytePart a ≡ 3)
+                  → openingByte modfile (valueIn values) (byteProcessor a) (bytePart a) (byteLocation a)
+                  ≡ openingByte modfile (start (networkOf files) (givenOf files)) (byteProcessor a) (bytePart a) (byteLocation a)
               parts (yes q) y z = byte-local modfile _ there w q ∙ local-same _ _ low-p low-k ∙ sym (byte-local modfile _ there w q)
               parts (no x) (yes q) z =
                   byte-sent-earlier modfile _ there w q ∙ sent-same _ _ low-p low-k ∙ sym (byte-sent-earlier modfile _ there w q)

@@ -2,14 +2,14 @@
 -- accepted, with 0 cycles finished and STIM's time 0 values"). `timeZero`, `panelOf`, `programOf` and `openingBytes` are over the files; their
 -- inner definitions, with `From` or `With` in the name, are over the bytes that a function of loading is lent.
 use Prim.Native.Nat.{ℕ, zero, suc, _*_, _/_, _%_}
-use mathlib.Core.List.{List, [], _∷_}
+use mathlib.Core.List.{List}
 use lib.Dec.{eqb, leb}
 use lib.ListN.{getD}
 use Rattle.logic.specs.Choice.{if_then_else_}
 use Rattle.logic.specs.Listed.{listed}
 use Rattle.model.specs.Files.{Files}
 use Rattle.model.specs.Network.{isSignal}
-use Rattle.model.specs.Netlist.{netSize, netField, network}
+use Rattle.model.specs.Netlist.{netSize, netField, codes, network}
 use Rattle.model.specs.Value.{start}
 use Rattle.model.specs.Module.{Module}
 use Rattle.model.specs.Machine.{opening}
@@ -17,8 +17,8 @@ use Rattle.model.specs.ModuleFile.{modProcessors, modSlots, moduleOf}
 use Rattle.model.specs.Stimulus.{held as given}
 use Rattle.model.specs.Acceptance.{networkOf, givenOf}
 use Rattle.buffers_memory.specs.Memory.{memoryLength, within, withMemory}
-use Rattle.buffers_tables.specs.Panel.{panelLength}
-use Rattle.buffers_tables.specs.Program.{programLength}
+use Rattle.buffers_tables.specs.Panel.{panelLength, headBytes, signalBytes, signalOf, columnOf}
+use Rattle.buffers_tables.specs.Program.{programLength, lineBytes, lineProcessor, lineSlot, lineColumn}
 
 -- the value of signal s at time 0, by NET and STIM, and 0 for what is no signal
 unfoldable pub timeZeroFrom : List ℕ → List ℕ → ℕ → ℕ
@@ -35,63 +35,34 @@ placeBelow m s (suc k) = if eqb (m .signal (k / m .slots) (k % m .slots)) s then
 unfoldable pub placeOf : List ℕ → ℕ → ℕ
 placeOf modfile s = placeBelow (moduleOf modfile) s (modProcessors modfile * modSlots modfile)
 
--- the session's ten bytes: N, P, C, 0 cycles finished, "watch signal 1, mask 0"
-abbrev pub headBytes : ℕ → ℕ → ℕ → List ℕ
-headBytes signals processors slots =
-    signals % 256 ∷ signals / 256
-    ∷ processors
-    ∷ slots % 256 ∷ slots / 256
-    ∷ 0 ∷ 0
-    ∷ 1 ∷ 0
-    ∷ 0
-    ∷ []
+-- the bytes of signal s: what NET says of it, its value in hand, and the processor and the slot of its line of MOD, C being the slots
+abbrev pub placedBytes : List ℕ → ℕ → ℕ → ℕ → ℕ → List ℕ
+placedBytes net s value line C = signalBytes (netField net s 0) (codes net s) value (line / C) (line % C)
 
--- the ten bytes of signal s: kind, f, g1 to g5, its value in hand, the processor and the slot of its place
-abbrev pub signalBytes : List ℕ → ℕ → ℕ → ℕ → ℕ → List ℕ
-signalBytes net s value processor slot =
-    netField net s 0
-    ∷ netField net s 2
-    ∷ netField net s 3 ∷ netField net s 4 ∷ netField net s 5 ∷ netField net s 6 ∷ netField net s 7
-    ∷ value
-    ∷ processor ∷ slot
-    ∷ []
-
--- the panel, for a module of P processors and C slots that has each signal at line `place s`, and with the values in hand: byte a is
--- one of the ten of signal a / 10, and 0 above signal N
+-- the panel, for a module of P processors and C slots that has each signal at line `place s`, and with the values in hand: the session's
+-- bytes with 0 cycles finished and "watch signal 1, mask 0", those of signals 1 to N, and 0 above signal N
 unfoldable pub panelByte : List ℕ → ℕ → ℕ → (ℕ → ℕ) → (ℕ → ℕ) → ℕ → ℕ → ℕ
-panelByte net P C place hand zero column = getD (headBytes (netSize net) P C) column 0
+panelByte net P C place hand zero column = getD (headBytes (netSize net) P C 0 1 0) column 0
 panelByte net P C place hand (suc s) column =
     if leb (suc s) (netSize net)
-    then getD (signalBytes net (suc s) (hand (suc s)) (place (suc s) / C) (place (suc s) % C)) column 0
+    then getD (placedBytes net (suc s) (hand (suc s)) (place (suc s)) C) column 0
     else 0
 
 -- the panel with given values in hand, and with those of time 0
 unfoldable pub panelWith : List ℕ → List ℕ → (ℕ → ℕ) → List ℕ
 panelWith net modfile hand =
-    listed panelLength (λ a. panelByte net (modProcessors modfile) (modSlots modfile) (placeOf modfile) hand (a / 10) (a % 10))
+    listed panelLength (λ a. panelByte net (modProcessors modfile) (modSlots modfile) (placeOf modfile) hand (signalOf a) (columnOf a))
 
 unfoldable pub panelOf : Files → List ℕ
 panelOf files = panelWith (files .NET) (files .MOD) (timeZero files)
 
--- the 13 bytes of processor p and slot i: its signal, the pairs of its operands and of its send, the processor received from
-abbrev pub lineBytes : Module → ℕ → ℕ → List ℕ
-lineBytes m p i =
-    m .signal p i % 256 ∷ m .signal p i / 256
-    ∷ m .part p i 0 ∷ m .location p i 0
-    ∷ m .part p i 1 ∷ m .location p i 1
-    ∷ m .part p i 2 ∷ m .location p i 2
-    ∷ m .part p i 3 ∷ m .location p i 3
-    ∷ m .sendPart p i ∷ m .sendLocation p i
-    ∷ m .sender p i
-    ∷ []
-
--- the program: byte a is one of the 13 of processor a / 13 % 16 and slot a / 13 / 16, and 0 where the module has no such line
+-- the program: the bytes of MOD's lines, and 0 where the module has no such line
 unfoldable pub programByte : List ℕ → ℕ → ℕ → ℕ → ℕ
 programByte modfile p i column =
     if within (modProcessors modfile) (modSlots modfile) p i then getD (lineBytes (moduleOf modfile) p i) column 0 else 0
 
 unfoldable pub programFrom : List ℕ → List ℕ
-programFrom modfile = listed programLength (λ a. programByte modfile (a / 13 % 16) (a / 13 / 16) (a % 13))
+programFrom modfile = listed programLength (λ a. programByte modfile (lineProcessor a) (lineSlot a) (lineColumn a))
 
 abbrev pub programOf : Files → List ℕ
 programOf files = programFrom (files .MOD)

@@ -1,5 +1,5 @@
 -- The bytes of the opening memory, by an array of time 0 values, and that the array's values are the signals'.
-use Prim.Native.Nat.{ℕ, zero, suc, _/_, _%_, _<_, _≤_}
+use Prim.Native.Nat.{ℕ, zero, suc, _<_, _≤_}
 use mathlib.Core.Path.{_≡_, refl, sym, _∙_, ap}
 use mathlib.Core.Bool.{true, false}
 use mathlib.Core.List.{List}
@@ -14,9 +14,9 @@ use Rattle.model.specs.Value.{valueOf}
 use Rattle.model.specs.Module.{noSender}
 use Rattle.model.specs.Machine.{opening, fetch}
 use Rattle.model.specs.ModuleFile.{modField, modIndex, modProcessors, modSlots, moduleOf}
-use Rattle.buffers_memory.specs.Memory.{memoryLength, blank, place, within}
+use Rattle.buffers_memory.specs.Memory.{memoryLength, blank, place, byteProcessor, bytePart, byteLocation, within}
 use Rattle.buffers_memory.proofs.Within.{is-within, no-processor, no-location}
-use Rattle.buffers_memory.proofs.Written.{Place, place-low, written-here, written-else, written-blank}
+use Rattle.buffers_memory.proofs.Written.{Place, place-low, byte-place, written-here, written-else, written-blank}
 use Rattle.buffers_load_files.specs.Checked.{ModuleChecked, valueIn}
 use Rattle.buffers_load_memory.specs.Bytes.{sentValue, openingByte}
 use Rattle.buffers_load_files.proofs.Fields.{slot-fits}
@@ -56,9 +56,6 @@ unfolding moduleOf
 location-below s low-q low-k = slot-fits s low-q low-k .send .low
 
 -- the bytes
-pub place-there : (a : ℕ) → a < memoryLength → Place (a / 1280) (a % 1280 / 256) (a % 256)
-place-there a h = record { processor-low = omega arith; part-low = omega arith; location-low = omega arith }
-
 module _ (modfile : List ℕ) (zeroth : ℕ → ℕ) {p part k : ℕ} (there : Place p part k) where
   blank-byte : getD (listed memoryLength (λ a. 0)) (place p part k) 0 ≡ 0
   blank-byte = listed-at memoryLength (λ a. 0) (place p part k) (place-low there)
@@ -99,29 +96,29 @@ module _ (modfile : List ℕ) (zeroth : ℕ → ℕ) {p part k : ℕ} (there : P
 -- byte a of the memory as the code tells it, by its tests of the processor, the location and the part
 module _ (modfile : List ℕ) (zeroth : ℕ → ℕ) {P C a : ℕ} (fits : (P ≡ modProcessors modfile) × (C ≡ modSlots modfile) × (a < memoryLength)) where
   abbrev Told : ℕ → Type 0
-  Told byte = byte ≡ openingByte modfile zeroth (a / 1280) (a % 1280 / 256) (a % 256)
+  Told byte = byte ≡ openingByte modfile zeroth (byteProcessor a) (bytePart a) (byteLocation a)
 
-  there : Place (a / 1280) (a % 1280 / 256) (a % 256)
-  there = place-there a (fits .2)
+  there : Place (byteProcessor a) (bytePart a) (byteLocation a)
+  there = byte-place a (fits .2)
 
-  pub told-no-processor : P ≤ a / 1280 → Told 0
-  told-no-processor h = sym (byte-outside modfile zeroth there (no-processor (modProcessors modfile) (modSlots modfile) (a / 1280) (a % 256) (omega arith)))
+  pub told-no-processor : P ≤ byteProcessor a → Told 0
+  told-no-processor h = sym (byte-outside modfile zeroth there (no-processor (modProcessors modfile) (modSlots modfile) (byteProcessor a) (byteLocation a) (omega arith)))
 
-  pub told-no-location : C ≤ a % 256 → Told 0
-  told-no-location h = sym (byte-outside modfile zeroth there (no-location (modProcessors modfile) (modSlots modfile) (a / 1280) (a % 256) (omega arith)))
+  pub told-no-location : C ≤ byteLocation a → Told 0
+  told-no-location h = sym (byte-outside modfile zeroth there (no-location (modProcessors modfile) (modSlots modfile) (byteProcessor a) (byteLocation a) (omega arith)))
 
-  module _ (p : a / 1280 < P) (k : a % 256 < C) where
-    inside : within (modProcessors modfile) (modSlots modfile) (a / 1280) (a % 256) ≡ true
-    inside = is-within (modProcessors modfile) (modSlots modfile) (a / 1280) (a % 256) (omega arith) (omega arith)
+  module _ (p : byteProcessor a < P) (k : byteLocation a < C) where
+    inside : within (modProcessors modfile) (modSlots modfile) (byteProcessor a) (byteLocation a) ≡ true
+    inside = is-within (modProcessors modfile) (modSlots modfile) (byteProcessor a) (byteLocation a) (omega arith) (omega arith)
 
-    pub told-local : a % 1280 / 256 ≡ 0 → (byte : ℕ) → byte ≡ valueOf zeroth (moduleOf modfile .signal (a / 1280) (a % 256)) → Told byte
+    pub told-local : bytePart a ≡ 0 → (byte : ℕ) → byte ≡ valueOf zeroth (moduleOf modfile .signal (byteProcessor a) (byteLocation a)) → Told byte
     told-local e byte is = is ∙ sym (byte-local modfile zeroth there inside e)
 
-    pub told-sent-earlier : a % 1280 / 256 ≡ 2 → (byte : ℕ) → byte ≡ sentValue (moduleOf modfile) zeroth (a / 1280) (a % 256) → Told byte
+    pub told-sent-earlier : bytePart a ≡ 2 → (byte : ℕ) → byte ≡ sentValue (moduleOf modfile) zeroth (byteProcessor a) (byteLocation a) → Told byte
     told-sent-earlier e byte is = is ∙ sym (byte-sent-earlier modfile zeroth there inside e)
 
-    pub told-sent-present : a % 1280 / 256 ≡ 3 → (byte : ℕ) → byte ≡ sentValue (moduleOf modfile) zeroth (a / 1280) (a % 256) → Told byte
+    pub told-sent-present : bytePart a ≡ 3 → (byte : ℕ) → byte ≡ sentValue (moduleOf modfile) zeroth (byteProcessor a) (byteLocation a) → Told byte
     told-sent-present e byte is = is ∙ sym (byte-sent-present modfile zeroth there inside e)
 
-    pub told-other : (a % 1280 / 256 ≡ 0 → ⊥) → (a % 1280 / 256 ≡ 2 → ⊥) → (a % 1280 / 256 ≡ 3 → ⊥) → Told 0
+    pub told-other : (bytePart a ≡ 0 → ⊥) → (bytePart a ≡ 2 → ⊥) → (bytePart a ≡ 3 → ⊥) → Told 0
     told-other x y z = sym (byte-other modfile zeroth there inside x y z)

@@ -1,14 +1,16 @@
 // The memory before cycle 1 from an accepted MOD and the signals' time 0 values, filled byte by byte: a function answers what a byte is.
 
 ghost use mathlib.Core.Path.{_≡_};
-ghost use Prim.Native.Nat.{_/_, _%_, _<_};
+ghost use Prim.Native.Nat.{_<_};
 ghost use lib.ListN.{length, getD};
 ghost use Rattle.model.specs.ModuleFile.{modProcessors, modSlots, moduleOf};
 ghost use Rattle.model.specs.Value.{valueOf};
-ghost use Rattle.buffers_memory.specs.Memory.{memoryLength};
+ghost use Rattle.buffers_memory.specs.Memory.{memoryLength, byteProcessor, bytePart, byteLocation};
 ghost use Rattle.buffers_load_files.specs.Loaded.{openingWith};
 ghost use Rattle.buffers_load_files.specs.Checked.{ModuleChecked, valueIn};
 ghost use Rattle.buffers_load_memory.specs.Bytes.{sentValue, openingByte};
+use buffers_memory::PART_STRIDE;
+use buffers_memory::PROCESSOR_STRIDE;
 
 // The time 0 value of the signal of a processor and a slot, and 0 of an empty slot.
 fn local_value(modfile: &[u8], values: &[u8], slots: usize, processor: usize, slot: usize) -> u8
@@ -40,11 +42,11 @@ fn memory_byte(modfile: &[u8], values: &[u8], processors: usize, slots: usize, a
     requires { ⌜ ModuleChecked (now modfile) ⌝ }
     requires { ⌜ (processors ≡ modProcessors (now modfile)) × (slots ≡ modSlots (now modfile)) × (a < memoryLength) ⌝ }
     requires { ⌜ (length (now values) ≡ 4097) × (getD (now values) 0 0 ≡ 0) ⌝ }
-    ensures { λ r. ⌜ r ≡ openingByte (now (modfile .entry)) (valueIn (now (values .entry))) (a / 1280) (a % 1280 / 256) (a % 256) ⌝ }
+    ensures { λ r. ⌜ r ≡ openingByte (now (modfile .entry)) (valueIn (now (values .entry))) (byteProcessor a) (bytePart a) (byteLocation a) ⌝ }
 {
-    let processor = a / 1280;
-    let part = a % 1280 / 256;
-    let location = a % 256;
+    let processor = a / PROCESSOR_STRIDE;
+    let part = a % PROCESSOR_STRIDE / PART_STRIDE;
+    let location = a % PART_STRIDE;
     if processors <= processor {
         return 0;
     }

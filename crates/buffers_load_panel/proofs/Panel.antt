@@ -20,25 +20,10 @@ use Rattle.model.specs.ModuleFile.{modProcessors, modSlots}
 use Rattle.model.specs.Checked.{Checked}
 use Rattle.model.proofs.Accepted.{SignalRight}
 use Rattle.model.proofs.Checked.{checked-signal}
-use Rattle.buffers_tables.specs.Panel.{panelLength}
-use Rattle.buffers_load_files.specs.Loaded.{placeOf, headBytes, signalBytes, panelByte, panelWith}
+use Rattle.buffers_tables.specs.Panel.{panelLength, codesColumn, handColumn, headBytes, signalOf, columnOf}
+use Rattle.buffers_load_files.specs.Loaded.{placeOf, placedBytes, panelByte, panelWith}
 use Rattle.buffers_load_files.specs.Checked.{valueIn}
 use Rattle.buffers_load_files.proofs.Arrays.{listed-same, array-at, in-array}
-
--- the session's bytes that are 0
-pub head-zeros : (n p c column : ℕ) → (column ≡ 0 → ⊥) → (column ≡ 1 → ⊥) → (column ≡ 2 → ⊥) → (column ≡ 3 → ⊥) → (column ≡ 4 → ⊥)
-    → (column ≡ 7 → ⊥) → column < 10 → getD (headBytes n p c) column 0 ≡ 0
-head-zeros n p c zero d0 d1 d2 d3 d4 d7 h = absurd (d0 refl)
-head-zeros n p c (suc zero) d0 d1 d2 d3 d4 d7 h = absurd (d1 refl)
-head-zeros n p c (suc (suc zero)) d0 d1 d2 d3 d4 d7 h = absurd (d2 refl)
-head-zeros n p c (suc (suc (suc zero))) d0 d1 d2 d3 d4 d7 h = absurd (d3 refl)
-head-zeros n p c (suc (suc (suc (suc zero)))) d0 d1 d2 d3 d4 d7 h = absurd (d4 refl)
-head-zeros n p c (suc (suc (suc (suc (suc zero))))) d0 d1 d2 d3 d4 d7 h = refl
-head-zeros n p c (suc (suc (suc (suc (suc (suc zero)))))) d0 d1 d2 d3 d4 d7 h = refl
-head-zeros n p c (suc (suc (suc (suc (suc (suc (suc zero))))))) d0 d1 d2 d3 d4 d7 h = absurd (d7 refl)
-head-zeros n p c (suc (suc (suc (suc (suc (suc (suc (suc zero)))))))) d0 d1 d2 d3 d4 d7 h = refl
-head-zeros n p c (suc (suc (suc (suc (suc (suc (suc (suc (suc zero))))))))) d0 d1 d2 d3 d4 d7 h = refl
-head-zeros n p c (suc (suc (suc (suc (suc (suc (suc (suc (suc (suc column)))))))))) d0 d1 d2 d3 d4 d7 h = absurd (omega arith)
 
 -- the fields of a signal of a checked NET: kind and codes are below 256
 module _ (net : List ℕ) (checked : Checked net) {s : ℕ} (low : 1 ≤ s) (high : s ≤ netSize net) where
@@ -59,7 +44,7 @@ module _ (net : List ℕ) (checked : Checked net) {s : ℕ} (low : 1 ≤ s) (hig
   unfolding isTranslation
   translation-small k h = omega (arith, leb-true (netField net s (3 + k)) 6 (right .translations k h))
 
-  pub code-small : (c : ℕ) → 1 ≤ c → c < 7 → netField net s (c + 1) < 256
+  pub code-small : (c : ℕ) → codesColumn ≤ c → c < handColumn → netField net s (c + 1) < 256
   code-small zero l h = absurd (omega arith)
   code-small (suc zero) l h = function-small
   code-small (suc (suc zero)) l h = translation-small 0 (omega arith)
@@ -73,8 +58,8 @@ module _ (net : List ℕ) (checked : Checked net) {s : ℕ} (low : 1 ≤ s) (hig
 pub kind-byte : (net : List ℕ) (s : ℕ) → numberAt net (73 * s) ≡ netField net s 0
 kind-byte net s = let e : 73 * s + 6 * 0 ≡ 73 * s = omega arith in ap (λ (x : ℕ). numberAt net x) (sym e)
 
-module _ (net : List ℕ) (s v p i : ℕ) where
-  pub code-byte : (c : ℕ) → 1 ≤ c → c < 7 → netField net s (c + 1) ≡ getD (signalBytes net s v p i) c 0
+module _ (net : List ℕ) (s v line slots : ℕ) where
+  pub code-byte : (c : ℕ) → codesColumn ≤ c → c < handColumn → netField net s (c + 1) ≡ getD (placedBytes net s v line slots) c 0
   code-byte zero l h = absurd (omega arith)
   code-byte (suc zero) l h = refl
   code-byte (suc (suc zero)) l h = refl
@@ -93,7 +78,7 @@ line-slot line slots l = mod-lt line {m = slots} (omega arith)
 
 -- which bytes they are
 module _ (net : List ℕ) (P C : ℕ) (place hand : ℕ → ℕ) (column : ℕ) where
-  pub panel-head : (s : ℕ) → s ≡ 0 → panelByte net P C place hand s column ≡ getD (headBytes (netSize net) P C) column 0
+  pub panel-head : (s : ℕ) → s ≡ 0 → panelByte net P C place hand s column ≡ getD (headBytes (netSize net) P C 0 1 0) column 0
   unfolding panelByte
   panel-head s e = rw e
 
@@ -103,7 +88,7 @@ module _ (net : List ℕ) (P C : ℕ) (place hand : ℕ → ℕ) (column : ℕ) 
   panel-above (suc s) h = rw (lt-leb (suc s) (netSize net) h)
 
   pub panel-signal : (s : ℕ) → (s ≡ 0 → ⊥) → s ≤ netSize net
-      → panelByte net P C place hand s column ≡ getD (signalBytes net s (hand s) (place s / C) (place s % C)) column 0
+      → panelByte net P C place hand s column ≡ getD (placedBytes net s (hand s) (place s) C) column 0
   unfolding panelByte
   panel-signal zero d h = absurd (d refl)
   panel-signal (suc s) d h = rw (le-leb (suc s) (netSize net) h)
@@ -118,23 +103,23 @@ module _ (net : List ℕ) (P C : ℕ) (place hand : ℕ → ℕ) (column : ℕ) 
   panel-same place' hand' p h (suc s) = go (leb (suc s) (netSize net)) refl
     where
       go : (b : Bool) → leb (suc s) (netSize net) ≡ b →
-          (if b then getD (signalBytes net (suc s) (hand (suc s)) (place (suc s) / C) (place (suc s) % C)) column 0 else 0)
-          ≡ (if b then getD (signalBytes net (suc s) (hand' (suc s)) (place' (suc s) / C) (place' (suc s) % C)) column 0 else 0)
+          (if b then getD (placedBytes net (suc s) (hand (suc s)) (place (suc s)) C) column 0 else 0)
+          ≡ (if b then getD (placedBytes net (suc s) (hand' (suc s)) (place' (suc s)) C) column 0 else 0)
       go true e =
           let high = leb-true (suc s) (netSize net) e in
-          ap (λ (x : ℕ). getD (signalBytes net (suc s) (hand (suc s)) (x / C) (x % C)) column 0) (p (suc s) (omega arith) high)
-          ∙ ap (λ (x : ℕ). getD (signalBytes net (suc s) x (place' (suc s) / C) (place' (suc s) % C)) column 0) (h (suc s) (omega arith) high)
+          ap (λ (x : ℕ). getD (placedBytes net (suc s) (hand (suc s)) x C) column 0) (p (suc s) (omega arith) high)
+          ∙ ap (λ (x : ℕ). getD (placedBytes net (suc s) x (place' (suc s)) C) column 0) (h (suc s) (omega arith) high)
       go false e = refl
 
 -- the panel filled by an array of the signals' lines
 pub panel-placed : (net modfile : List ℕ) → Checked net → (P C : ℕ) (places : List ℕ) (hand : ℕ → ℕ) → P ≡ modProcessors modfile
     → C ≡ modSlots modfile → places ≡ listed 4097 (placeOf modfile)
-    → (panel : List ℕ) → panel ≡ listed panelLength (λ a. panelByte net P C (valueIn places) hand (a / 10) (a % 10))
+    → (panel : List ℕ) → panel ≡ listed panelLength (λ a. panelByte net P C (valueIn places) hand (signalOf a) (columnOf a))
     → panel ≡ panelWith net modfile hand
 unfolding panelWith
 panel-placed net modfile checked P C places hand p c e panel is =
     is
     ∙ rw (p, c)
     (listed-same panelLength _ _
-    (λ a b. panel-same net (modProcessors modfile) (modSlots modfile) (valueIn places) hand (a % 10) (placeOf modfile) hand
-    (λ s l h. array-at (placeOf modfile) places e s (in-array net checked s h)) (λ s l h. refl) (a / 10)))
+    (λ a b. panel-same net (modProcessors modfile) (modSlots modfile) (valueIn places) hand (columnOf a) (placeOf modfile) hand
+    (λ s l h. array-at (placeOf modfile) places e s (in-array net checked s h)) (λ s l h. refl) (signalOf a)))

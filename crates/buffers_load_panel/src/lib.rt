@@ -1,15 +1,23 @@
 // The panel as a session opens, from accepted NET and MOD and the signals' time 0 values: where each signal is placed, then every byte.
 
 ghost use mathlib.Core.Path.{_≡_};
-ghost use Prim.Native.Nat.{ℕ, _*_, _/_, _%_, _<_, _≤_};
+ghost use Prim.Native.Nat.{ℕ, _*_, _<_, _≤_};
 ghost use lib.ListN.{length, getD};
 ghost use Rattle.logic.specs.Listed.{listed};
 ghost use Rattle.model.specs.Netlist.{netSize};
 ghost use Rattle.model.specs.Checked.{Checked};
-ghost use Rattle.buffers_tables.specs.Panel.{panelLength};
-ghost use Rattle.buffers_load_files.specs.Loaded.{placeOf, headBytes, signalBytes, panelByte, panelWith};
+ghost use Rattle.buffers_tables.specs.Panel.{panelLength, panelStride, headBytes, signalOf, columnOf};
+ghost use Rattle.buffers_load_files.specs.Loaded.{placeOf, placedBytes, panelByte, panelWith};
 ghost use Rattle.buffers_load_files.specs.Checked.{ModuleChecked, valueIn};
 ghost use Rattle.buffers_load_panel.specs.Lines.{LineNumbers};
+use buffers_tables::HAND;
+use buffers_tables::KIND;
+use buffers_tables::PANEL_STRIDE;
+use buffers_tables::PROCESSOR;
+use buffers_tables::PROCESSORS;
+use buffers_tables::SIGNALS;
+use buffers_tables::SLOTS;
+use buffers_tables::WATCHED;
 
 // Which line of MOD has each signal, counted from 0 after line 1. Index 0 is for the empty slots.
 fn load_places(modfile: &[u8], places: &mut [u16])
@@ -33,48 +41,48 @@ fn line_index(line: u16) -> usize
     line as usize
 }
 
-// One of the session's ten bytes: N, P, C, no cycle finished, watch signal 1 with mask 0.
+// One of the session's bytes: N, P, C, no cycle finished, watch signal 1 with mask 0.
 fn head_byte(signals: usize, processors: usize, slots: usize, column: usize) -> u8
-    requires { ⌜ (signals ≤ 4096) × (processors ≤ 16) × (slots ≤ 256) × (column < 10) ⌝ }
-    ensures { λ r. ⌜ r ≡ getD (headBytes signals processors slots) column 0 ⌝ }
+    requires { ⌜ (signals ≤ 4096) × (processors ≤ 16) × (slots ≤ 256) × (column < panelStride) ⌝ }
+    ensures { λ r. ⌜ r ≡ getD (headBytes signals processors slots 0 1 0) column 0 ⌝ }
 {
-    if column == 0 {
+    if column == SIGNALS {
         return (signals % 256) as u8;
     }
-    if column == 1 {
+    if column == SIGNALS + 1 {
         return (signals / 256) as u8;
     }
-    if column == 2 {
+    if column == PROCESSORS {
         return processors as u8;
     }
-    if column == 3 {
+    if column == SLOTS {
         return (slots % 256) as u8;
     }
-    if column == 4 {
+    if column == SLOTS + 1 {
         return (slots / 256) as u8;
     }
-    if column == 7 {
+    if column == WATCHED {
         return 1;
     }
     0
 }
 
-// One of the ten bytes of a signal: its codes as in NET, its value in hand, the processor and the slot of its line.
+// One of the bytes of a signal: its codes as in NET, its value in hand, the processor and the slot of its line.
 fn signal_byte(net: &[u8], signal: usize, value: u8, line: usize, slots: usize, column: usize) -> u8
     requires { ⌜ Checked (now net) ⌝ }
-    requires { ⌜ (1 ≤ signal) × (signal ≤ netSize (now net)) × (1 ≤ slots) × (slots ≤ 256) × (line < 16 * slots) × (column < 10) ⌝ }
-    ensures { λ r. ⌜ r ≡ getD (signalBytes (now (net .entry)) signal value (line / slots) (line % slots)) column 0 ⌝ }
+    requires { ⌜ (1 ≤ signal) × (signal ≤ netSize (now net)) × (1 ≤ slots) × (slots ≤ 256) × (line < 16 * slots) × (column < panelStride) ⌝ }
+    ensures { λ r. ⌜ r ≡ getD (placedBytes (now (net .entry)) signal value line slots) column 0 ⌝ }
 {
-    if column == 0 {
+    if column == KIND {
         return fields::number_at(net, 73 * signal) as u8;
     }
-    if column < 7 {
+    if column < HAND {
         return fields::number_at(net, 73 * signal + 6 * (column + 1)) as u8;
     }
-    if column == 7 {
+    if column == HAND {
         return value;
     }
-    if column == 8 {
+    if column == PROCESSOR {
         return (line / slots) as u8;
     }
     (line % slots) as u8
@@ -93,11 +101,11 @@ fn panel_byte(
     requires { ⌜ Checked (now net) ⌝ }
     requires { ⌜ (signals ≡ netSize (now net)) × (processors ≤ 16) × (1 ≤ slots) × (slots ≤ 256) × (a < panelLength) ⌝ }
     requires { ⌜ (length (now values) ≡ 4097) × LineNumbers slots (now places) ⌝ }
-    ensures { λ r. ⌜ r ≡ panelByte (now (net .entry)) processors slots (valueIn (now (places .entry))) (valueIn (now (values .entry))) (a / 10) (a % 10) ⌝ }
+    ensures { λ r. ⌜ r ≡ panelByte (now (net .entry)) processors slots (valueIn (now (places .entry))) (valueIn (now (values .entry))) (signalOf a) (columnOf a) ⌝ }
 {
-    let signal = a / 10;
+    let signal = a / PANEL_STRIDE;
     if signal == 0 {
-        return head_byte(signals, processors, slots, a % 10);
+        return head_byte(signals, processors, slots, a % PANEL_STRIDE);
     }
     if signals < signal {
         return 0;
@@ -108,7 +116,7 @@ fn panel_byte(
         values[signal],
         line_index(places[signal]),
         slots,
-        a % 10,
+        a % PANEL_STRIDE,
     )
 }
 
@@ -124,7 +132,7 @@ fn fill_panel(
     requires { ⌜ Checked (now net) ⌝ }
     requires { ⌜ (processors ≤ 16) × (1 ≤ slots) × (slots ≤ 256) × (length (now panel) ≡ panelLength) ⌝ }
     requires { ⌜ (length (now values) ≡ 4097) × LineNumbers slots (now places) ⌝ }
-    ensures { λ _. ⌜ now (panel .exit) ≡ listed panelLength (λ a. panelByte (now (net .entry)) processors slots (valueIn (now (places .entry))) (valueIn (now (values .entry))) (a / 10) (a % 10)) ⌝ }
+    ensures { λ _. ⌜ now (panel .exit) ≡ listed panelLength (λ a. panelByte (now (net .entry)) processors slots (valueIn (now (places .entry))) (valueIn (now (values .entry))) (signalOf a) (columnOf a)) ⌝ }
 {
     let signals = buffers_load_files::signals_of(net);
     let mut a: usize = 0;

@@ -6,7 +6,7 @@ use mathlib.Core.Logic.{⊎-elim}
 use native.Mathlib.Omega.{arith}
 use lib.ListN.{getD}
 use Rattle.model.specs.ModuleFile.{modField, modProcessors, modSlots, modIndex, moduleOf}
-use Rattle.buffers_load_files.specs.Loaded.{lineBytes}
+use Rattle.buffers_tables.specs.Program.{lineStride, operandsColumn, lineBytes}
 use Rattle.buffers_load_files.specs.Checked.{ModuleChecked}
 use Rattle.buffers_load_files.proofs.Fields.{processors-range, slots-range, slot-fits}
 
@@ -36,7 +36,7 @@ module _ {modfile : List ℕ} (s : ModuleChecked modfile) {p i : ℕ} (low-p : p
       ⊎-elim (λ (l : modField modfile (modIndex modfile p i) 13 < modProcessors modfile). omega (arith, processors-range s))
       (λ (l : modField modfile (modIndex modfile p i) 13 ≡ 99). omega arith) (slot-fits s low-p low-i .sender)
 
-  pub column-small : (c : ℕ) → 2 ≤ c → c < 13 → modField modfile (modIndex modfile p i) (c + 1) < 256
+  pub column-small : (c : ℕ) → operandsColumn ≤ c → c < lineStride → modField modfile (modIndex modfile p i) (c + 1) < 256
   column-small zero low h = absurd (omega arith)
   column-small (suc zero) low h = absurd (omega arith)
   column-small (suc (suc zero)) low h = pair-small 0 (omega arith) .0
@@ -62,7 +62,7 @@ module _ (modfile : List ℕ) (p i : ℕ) where
   unfolding moduleOf
   signal-high = refl
 
-  pub line-column : (c : ℕ) → 2 ≤ c → c < 13 → getD (lineBytes (moduleOf modfile) p i) c 0 ≡ modField modfile (modIndex modfile p i) (c + 1)
+  pub line-column : (c : ℕ) → operandsColumn ≤ c → c < lineStride → getD (lineBytes (moduleOf modfile) p i) c 0 ≡ modField modfile (modIndex modfile p i) (c + 1)
   unfolding moduleOf
   line-column zero low h = absurd (omega arith)
   line-column (suc zero) low h = absurd (omega arith)

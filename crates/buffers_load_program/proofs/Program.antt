@@ -7,7 +7,8 @@ use lib.ListN.{getD}
 use Rattle.model.specs.ModuleFile.{modProcessors, modSlots, moduleOf}
 use Rattle.buffers_memory.specs.Memory.{within}
 use Rattle.buffers_memory.proofs.Within.{is-within}
-use Rattle.buffers_load_files.specs.Loaded.{lineBytes, programByte}
+use Rattle.buffers_tables.specs.Program.{lineBytes}
+use Rattle.buffers_load_files.specs.Loaded.{programByte}
 
 module _ (modfile : List ℕ) (p i column : ℕ) where
   pub byte-within : p < modProcessors modfile → i < modSlots modfile

@@ -1,17 +1,19 @@
 // The program buffer from an accepted MOD, filled byte by byte: a function answers what a byte is.
 
 ghost use mathlib.Core.Path.{_≡_};
-ghost use Prim.Native.Nat.{_/_, _%_, _<_};
+ghost use Prim.Native.Nat.{_<_};
 ghost use lib.ListN.{length, getD};
 ghost use Rattle.model.specs.ModuleFile.{modProcessors, modSlots, moduleOf};
-ghost use Rattle.buffers_tables.specs.Program.{programLength};
-ghost use Rattle.buffers_load_files.specs.Loaded.{lineBytes, programByte, programFrom};
+ghost use Rattle.buffers_tables.specs.Program.{programLength, lineStride, lineBytes, lineProcessor, lineSlot, lineColumn};
+ghost use Rattle.buffers_load_files.specs.Loaded.{programByte, programFrom};
 ghost use Rattle.buffers_load_files.specs.Checked.{ModuleChecked};
+use buffers_tables::LINE_STRIDE;
+use buffers_tables::SLOT_LINES;
 
-// One of the 13 bytes of a processor and a slot: the signal takes two, and every other number is below 256.
+// One of the bytes of the line of a processor and a slot: the signal takes two, and every other number is below 256.
 fn line_byte(modfile: &[u8], slots: usize, processor: usize, slot: usize, column: usize) -> u8
     requires { ⌜ ModuleChecked (now modfile) ⌝ }
-    requires { ⌜ (slots ≡ modSlots (now modfile)) × (processor < modProcessors (now modfile)) × (slot < slots) × (column < 13) ⌝ }
+    requires { ⌜ (slots ≡ modSlots (now modfile)) × (processor < modProcessors (now modfile)) × (slot < slots) × (column < lineStride) ⌝ }
     ensures { λ r. ⌜ r ≡ getD (lineBytes (moduleOf (now (modfile .entry))) processor slot) column 0 ⌝ }
 {
     if column == 0 {
@@ -27,17 +29,17 @@ fn line_byte(modfile: &[u8], slots: usize, processor: usize, slot: usize, column
 fn program_byte(modfile: &[u8], processors: usize, slots: usize, a: usize) -> u8
     requires { ⌜ ModuleChecked (now modfile) ⌝ }
     requires { ⌜ (processors ≡ modProcessors (now modfile)) × (slots ≡ modSlots (now modfile)) × (a < programLength) ⌝ }
-    ensures { λ r. ⌜ r ≡ programByte (now (modfile .entry)) (a / 13 % 16) (a / 13 / 16) (a % 13) ⌝ }
+    ensures { λ r. ⌜ r ≡ programByte (now (modfile .entry)) (lineProcessor a) (lineSlot a) (lineColumn a) ⌝ }
 {
-    let processor = a / 13 % 16;
-    let slot = a / 13 / 16;
+    let processor = a / LINE_STRIDE % SLOT_LINES;
+    let slot = a / LINE_STRIDE / SLOT_LINES;
     if processors <= processor {
         return 0;
     }
     if slots <= slot {
         return 0;
     }
-    line_byte(modfile, slots, processor, slot, a % 13)
+    line_byte(modfile, slots, processor, slot, a % LINE_STRIDE)
 }
 
 // The program: MOD's lines, slot by slot.

@@ -1,6 +1,6 @@
 -- Laws of `written`: what stands at a place after a memory is written, and lists that are so written. The idea: every byte has one
 -- processor, part and location.
-use Prim.Native.Nat.{ℕ, zero, suc, _/_, _%_, _<_}
+use Prim.Native.Nat.{ℕ, zero, suc, _<_}
 use mathlib.Core.Path.{_≡_, refl, sym, subst, _∙_, ap}
 use mathlib.Core.Bool.{Bool, true, false}
 use mathlib.Core.List.{List}
@@ -13,7 +13,7 @@ use Rattle.logic.specs.Test.{_and_}
 use Rattle.logic.specs.Choice.{if_then_else_}
 use Rattle.logic.proofs.Listed.{listed-length, listed-at, is-listed}
 use Rattle.model.specs.Machine.{Memory, fetch}
-use Rattle.buffers_memory.specs.Memory.{memoryLength, blank, place, memoryOf, writtenAt, written, MemoryBytes}
+use Rattle.buffers_memory.specs.Memory.{memoryLength, blank, place, byteProcessor, bytePart, byteLocation, memoryOf, writtenAt, written, MemoryBytes}
 
 -- a processor, a part and a location of the memory
 pub record Place (p part k : ℕ) : Type 0 where
@@ -26,13 +26,13 @@ module _ {p part k : ℕ} (a : Place p part k) where
   pub place-low : place p part k < memoryLength
   place-low = let h = a .processor-low in let b = a .part-low in let l = a .location-low in omega arith
 
-  at-processor : place p part k / 1280 ≡ p
+  pub at-processor : byteProcessor (place p part k) ≡ p
   at-processor = let h = a .processor-low in let b = a .part-low in let l = a .location-low in omega arith
 
-  at-part : place p part k % 1280 / 256 ≡ part
+  pub at-part : bytePart (place p part k) ≡ part
   at-part = let h = a .processor-low in let b = a .part-low in let l = a .location-low in omega arith
 
-  at-location : place p part k % 256 ≡ k
+  pub at-location : byteLocation (place p part k) ≡ k
   at-location = let h = a .processor-low in let b = a .part-low in let l = a .location-low in omega arith
 
   -- places that differ somewhere are other bytes
@@ -43,10 +43,10 @@ module _ {p part k : ℕ} (a : Place p part k) where
       (omega arith, omega arith, omega arith)
 
 -- each byte of the memory has a place
-pub byte-place : (a : ℕ) → a < memoryLength → Place (a / 1280) (a % 1280 / 256) (a % 256)
+pub byte-place : (a : ℕ) → a < memoryLength → Place (byteProcessor a) (bytePart a) (byteLocation a)
 byte-place a l = record { processor-low = omega arith; part-low = omega arith; location-low = omega arith }
 
-pub byte-is : (a : ℕ) → a ≡ place (a / 1280) (a % 1280 / 256) (a % 256)
+pub byte-is : (a : ℕ) → a ≡ place (byteProcessor a) (bytePart a) (byteLocation a)
 byte-is a = omega arith
 
 module _ (test : ℕ → ℕ → Bool) (w : Memory) (old : List ℕ) where
@@ -58,8 +58,8 @@ module _ (test : ℕ → ℕ → Bool) (w : Memory) (old : List ℕ) where
   unfolding written
   written-at {p} {part} {k} a =
       listed-at memoryLength _ (place p part k) (place-low a)
-      ∙ ap (λ (x : ℕ). writtenAt test w old x (place p part k % 1280 / 256) (place p part k % 256)) (at-processor a)
-      ∙ ap (λ (x : ℕ). writtenAt test w old p x (place p part k % 256)) (at-part a)
+      ∙ ap (λ (x : ℕ). writtenAt test w old x (bytePart (place p part k)) (byteLocation (place p part k))) (at-processor a)
+      ∙ ap (λ (x : ℕ). writtenAt test w old p x (byteLocation (place p part k))) (at-part a)
       ∙ ap (λ (x : ℕ). writtenAt test w old p part x) (at-location a)
 
   -- a list is written so, if it is at every place
@@ -68,7 +68,7 @@ module _ (test : ℕ → ℕ → Bool) (w : Memory) (old : List ℕ) where
   unfolding written
   is-written l e h =
       is-listed l memoryLength _ e
-      (λ a b. ap (λ (x : ℕ). getD l x 0) (byte-is a) ∙ h (a / 1280) (a % 1280 / 256) (a % 256) (byte-place a b))
+      (λ a b. ap (λ (x : ℕ). getD l x 0) (byte-is a) ∙ h (byteProcessor a) (bytePart a) (byteLocation a) (byte-place a b))
 
   -- where the test passes, and elsewhere
   pub written-here : (p part k : ℕ) → test p k ≡ true → part < blank → writtenAt test w old p part k ≡ fetch w p part k

@@ -21,9 +21,32 @@ memoryLength = 20480
 abbrev pub blank : ℕ
 blank = 4
 
+-- the bytes of a processor, those of each of its parts, its parts, and the parts of all processors
+abbrev pub processorStride : ℕ
+processorStride = 1280
+
+abbrev pub partStride : ℕ
+partStride = 256
+
+abbrev pub processorParts : ℕ
+processorParts = 5
+
+abbrev pub memoryParts : ℕ
+memoryParts = 80
+
 -- the byte of location k of a part of processor p
 abbrev pub place : ℕ → ℕ → ℕ → ℕ
-place p part k = 1280 * p + 256 * part + k
+place p part k = processorStride * p + partStride * part + k
+
+-- the processor, the part and the location of a byte
+abbrev pub byteProcessor : ℕ → ℕ
+byteProcessor a = a / processorStride
+
+abbrev pub bytePart : ℕ → ℕ
+bytePart a = a % processorStride / partStride
+
+abbrev pub byteLocation : ℕ → ℕ
+byteLocation a = a % partStride
 
 -- the memory that bytes hold: "earlier" and "present" are roles
 unfoldable pub memoryOf : List ℕ → Memory
@@ -54,7 +77,7 @@ unfoldable pub writtenAt : (ℕ → ℕ → Bool) → Memory → List ℕ → �
 writtenAt test w old p part k = if test p k and ltb part blank then fetch w p part k else getD old (place p part k) 0
 
 unfoldable pub written : (ℕ → ℕ → Bool) → Memory → List ℕ → List ℕ
-written test w old = listed memoryLength (λ a. writtenAt test w old (a / 1280) (a % 1280 / 256) (a % 256))
+written test w old = listed memoryLength (λ a. writtenAt test w old (byteProcessor a) (bytePart a) (byteLocation a))
 
 -- p is one of the module's processors, and k one of its locations
 unfoldable pub within : ℕ → ℕ → ℕ → ℕ → Bool

@@ -12,12 +12,13 @@ use Rattle.logic.specs.Test.{_and_}
 use Rattle.logic.proofs.Tests.{and-true, and-left, and-right, all-at, all-true}
 use Rattle.logic.specs.Choice.{if_then_else_}
 use Rattle.model.specs.Module.{At}
-use Rattle.buffers_memory.specs.Memory.{memoryLength, blank, place, within, MemoryBytes}
-use Rattle.buffers_memory.proofs.Written.{Place, place-low, byte-place, byte-is}
+use Rattle.buffers_memory.specs.Memory.{memoryLength, blank, place, byteProcessor, bytePart, byteLocation, within, MemoryBytes}
+use Rattle.buffers_memory.proofs.Written.{Place, place-low, at-processor, at-part, at-location, byte-place, byte-is}
 use Rattle.buffers_memory.proofs.Within.{within-true}
 use Rattle.buffers_tables.specs.Panel.{panelLength, signalsIn, processorsIn, slotsIn}
-use Rattle.buffers_tables.specs.Program.{programLength, lineIn}
+use Rattle.buffers_tables.specs.Program.{programLength, lineStride, slotLines, lineIn}
 use Rattle.buffers_tables.specs.Tables.{networkIn, moduleIn, Tables}
+use Rattle.buffers_tables.proofs.Places.{line-low, at-line-processor, at-line-slot}
 use Rattle.buffers_runs.specs.Zeros.{zeros}
 use Rattle.buffers_range_program.specs.Ranges.{lineRanged, programRanged}
 use Rattle.buffers_range_memory.specs.Ranges.{memoryRanged}
@@ -32,7 +33,7 @@ use Rattle.buffers_range_memory.proofs.Parts.{limit}
 -- the program: lines of P processors and C slots, and zeros
 pub record Program (panel program : List ℕ) : Type 0 where
   pub lines : (p i : ℕ) → At (moduleIn panel program) p i → Line (networkIn panel program) (moduleIn panel program) p i
-  pub rest : (p i b : ℕ) → p < 16 → i < 256 → b < 13 → within (processorsIn panel) (slotsIn panel) p i ≡ false
+  pub rest : (p i b : ℕ) → p < 16 → i < 256 → b < lineStride → within (processorsIn panel) (slotsIn panel) p i ≡ false
       → getD program (lineIn p i + b) 0 ≡ 0
 
 -- the memory: values in the locations of P processors and C slots, and zeros
@@ -53,9 +54,8 @@ module _ (panel program : List ℕ) where
             let s = a .slot in
             ranged-line (networkIn panel program) (moduleIn panel program) p i (used-line panel program h p i (omega arith) (omega arith) l s);
         rest = λ p i b pl il bl e.
-            let q : (lineIn p i + b) / 13 % 16 ≡ p = omega arith in
-            let r : (lineIn p i + b) / 13 / 16 ≡ i = omega arith in
-            unused-byte panel program h (lineIn p i + b) (omega arith) (rw (q, r) e);
+            unused-byte panel program h (lineIn p i + b) (line-low p i b pl bl il)
+            (rw (at-line-processor p i b pl bl, at-line-slot p i b pl bl) e);
       }
 
   pub program-ranged : Program panel program → programRanged panel program ≡ true
@@ -63,15 +63,15 @@ module _ (panel program : List ℕ) where
   program-ranged h = all-true (lineTest panel program) 4096 (λ k l. go k l (used panel program k) refl)
     where
       go : (k : ℕ) → k < 4096 → (b : Bool) → used panel program k ≡ b
-          → (if b then lineRanged (networkIn panel program) (moduleIn panel program) (k % 16) (k / 16) else zeros program (13 * k) 13) ≡ true
+          → (if b then lineRanged (networkIn panel program) (moduleIn panel program) (k % slotLines) (k / slotLines) else zeros program (lineStride * k) lineStride) ≡ true
       go k l true e =
-          line-ranged (networkIn panel program) (moduleIn panel program) (k % 16) (k / 16)
-          (h .lines (k % 16) (k / 16)
-          (let low = within-true _ _ (k % 16) (k / 16) e in record { processor = low .0; slot = low .1 }))
+          line-ranged (networkIn panel program) (moduleIn panel program) (k % slotLines) (k / slotLines)
+          (h .lines (k % slotLines) (k / slotLines)
+          (let low = within-true _ _ (k % slotLines) (k / slotLines) e in record { processor = low .0; slot = low .1 }))
       go k l false e =
-          zeros-true program (13 * k) 13 (λ x low high.
-          let q : lineIn (k % 16) (k / 16) + (x - 13 * k) ≡ x = omega arith in
-          subst (λ (y : ℕ). getD program y 0 ≡ 0) q (h .rest (k % 16) (k / 16) (x - 13 * k) (omega arith) (omega arith) (omega arith) e))
+          zeros-true program (lineStride * k) lineStride (λ x low high.
+          let q : lineIn (k % slotLines) (k / slotLines) + (x - lineStride * k) ≡ x = omega arith in
+          subst (λ (y : ℕ). getD program y 0 ≡ 0) q (h .rest (k % slotLines) (k / slotLines) (x - lineStride * k) (omega arith) (omega arith) (omega arith) e))
 
 module _ (panel memory : List ℕ) where
   -- the limit of a byte, by its place
@@ -80,11 +80,7 @@ module _ (panel memory : List ℕ) where
 
   limit-place : {p part k : ℕ} → Place p part k → limit panel (place p part k) ≡ limitAt p part k
   limit-place {p} {part} {k} a =
-      let h = a .processor-low in let b = a .part-low in let l = a .location-low in
-      let q : place p part k / 1280 ≡ p = omega arith in
-      let r : place p part k % 1280 / 256 ≡ part = omega arith in
-      let s : place p part k % 256 ≡ k = omega arith in
-      rw (q, r, s)
+      rw (at-processor a, at-part a, at-location a)
 
   limit-high : (b : Bool) → _≤_ (if b then 3 else 0) 3
   limit-high true = omega arith
@@ -113,9 +109,9 @@ module _ (panel memory : List ℕ) where
   values-ranged h = all-true (λ b. leb (getD memory b 0) (limit panel b)) memoryLength (λ a l. le-leb (getD memory a 0) (limit panel a) (at a l))
     where
       at : (a : ℕ) → a < memoryLength → getD memory a 0 ≤ limit panel a
-      at a l = go (within (processorsIn panel) (slotsIn panel) (a / 1280) (a % 256) and ltb (a % 1280 / 256) blank) refl
+      at a l = go (within (processorsIn panel) (slotsIn panel) (byteProcessor a) (byteLocation a) and ltb (bytePart a) blank) refl
         where
-          go : (b : Bool) → within (processorsIn panel) (slotsIn panel) (a / 1280) (a % 256) and ltb (a % 1280 / 256) blank ≡ b
+          go : (b : Bool) → within (processorsIn panel) (slotsIn panel) (byteProcessor a) (byteLocation a) and ltb (bytePart a) blank ≡ b
               → getD memory a 0 ≤ (if b then 3 else 0)
           go true e = subst (λ (x : ℕ). getD memory x 0 ≤ 3) (sym (byte-is a)) (h .values (byte-place a l))
           go false e = let z = subst (λ (x : ℕ). getD memory x 0 ≡ 0) (sym (byte-is a)) (h .rest (byte-place a l) e) in omega arith

@@ -13,7 +13,7 @@ use Rattle.logic.proofs.Tests.{and-true, and-left, and-right, all-at, all-true}
 use Rattle.gates.specs.Translation.{isTranslation}
 use Rattle.gates.specs.Function.{isFunction}
 use Rattle.model.specs.Network.{input, unitDelay, rankOrder}
-use Rattle.buffers_tables.specs.Panel.{panelLength, signalsIn, processorsIn, slotsIn, watchedIn, maskIn, kindIn, handIn, processorIn, slotIn}
+use Rattle.buffers_tables.specs.Panel.{panelLength, panelStride, codesColumn, handColumn, signalStart, signalByte, columnIn, signalsIn, processorsIn, slotsIn, watchedIn, maskIn, kindIn, handIn, processorIn, slotIn}
 use Rattle.buffers_runs.specs.Zeros.{zeros}
 use Rattle.buffers_range_panel.specs.Ranges.{headRanged, codesRanged, signalRanged, panelRanged}
 use Rattle.buffers_runs.proofs.Runs.{zeros-byte, zeros-true}
@@ -105,7 +105,7 @@ module _ (panel : List ℕ) where
 pub record Panel (panel : List ℕ) : Type 0 where
   pub head : Head panel
   pub signals : (s : ℕ) → 1 ≤ s → s ≤ signalsIn panel → Numbers panel s
-  pub rest : (x : ℕ) → 10 * (signalsIn panel + 1) ≤ x → x < panelLength → getD panel x 0 ≡ 0
+  pub rest : (x : ℕ) → signalStart (signalsIn panel + 1) ≤ x → x < panelLength → getD panel x 0 ≡ 0
 
 module _ (panel : List ℕ) where
   pub ranged-panel : panelRanged panel ≡ true → Panel panel
@@ -122,7 +122,7 @@ module _ (panel : List ℕ) where
             (subst (λ (x : ℕ). signalRanged panel x ≡ true) q
             (all-at (λ k. signalRanged panel (k + 1)) (signalsIn panel) (and-left _ _ later) (s - 1) (omega arith)));
         rest = λ x low l.
-            zeros-byte panel (10 * (signalsIn panel + 1)) (10 * (4096 - signalsIn panel)) (and-right _ _ later) x low (omega arith);
+            zeros-byte panel (signalStart (signalsIn panel + 1)) (panelStride * (4096 - signalsIn panel)) (and-right _ _ later) x low (omega arith);
       }
 
   pub panel-ranged : Panel panel → panelRanged panel ≡ true
@@ -132,7 +132,7 @@ module _ (panel : List ℕ) where
       and-true _ _ (numbers-head panel (h .head))
       (and-true _ _
       (all-true _ (signalsIn panel) (λ k l. numbers-signal panel (k + 1) (h .signals (k + 1) (omega arith) (omega arith))))
-      (zeros-true panel (10 * (signalsIn panel + 1)) (10 * (4096 - signalsIn panel)) (λ x low l. h .rest x low (omega arith))))
+      (zeros-true panel (signalStart (signalsIn panel + 1)) (panelStride * (4096 - signalsIn panel)) (λ x low l. h .rest x low (omega arith))))
 
 -- "Kind 1 is an input .., 2 unit-delay, 3 rank-order"
 pub kinds : (panel : List ℕ) (s : ℕ) → Numbers panel s → (kindIn panel s ≡ input) ⊎ (kindIn panel s ≡ unitDelay) ⊎ (kindIn panel s ≡ rankOrder)
@@ -156,9 +156,9 @@ kinds panel s h = go (eqb (kindIn panel s) input) refl (eqb (kindIn panel s) uni
 -- the codes of signal s
 module _ (panel : List ℕ) (s : ℕ) where
   abbrev supplied : Bool
-  supplied = isFunction (getD panel (10 * s + 1) 0) and all 5 (λ k. isTranslation (getD panel (10 * s + 2 + k) 0))
+  supplied = isFunction (columnIn panel s codesColumn) and all 5 (λ k. isTranslation (getD panel (signalByte s (codesColumn + 1) + k) 0))
 
-  input-codes : kindIn panel s ≡ input → codesRanged panel s ≡ zeros panel (10 * s + 1) 6
+  input-codes : kindIn panel s ≡ input → codesRanged panel s ≡ zeros panel (signalByte s codesColumn) 6
   unfolding codesRanged
   input-codes e = rw (eq-eqb (kindIn panel s) 1 e)
 
@@ -166,34 +166,34 @@ module _ (panel : List ℕ) (s : ℕ) where
   unfolding codesRanged
   gate-codes d = rw (ne-eqb (kindIn panel s) 1 d)
 
-  pub input-zeros : codesRanged panel s ≡ true → kindIn panel s ≡ input → (x : ℕ) → 10 * s < x → x < 10 * s + 7 → getD panel x 0 ≡ 0
-  input-zeros h e x low high = zeros-byte panel (10 * s + 1) 6 (sym (input-codes e) ∙ h) x (omega arith) (omega arith)
+  pub input-zeros : codesRanged panel s ≡ true → kindIn panel s ≡ input → (x : ℕ) → signalByte s codesColumn ≤ x → x < signalByte s handColumn → getD panel x 0 ≡ 0
+  input-zeros h e x low high = zeros-byte panel (signalByte s codesColumn) 6 (sym (input-codes e) ∙ h) x (omega arith) (omega arith)
 
-  pub zeros-input : kindIn panel s ≡ input → ((x : ℕ) → 10 * s < x → x < 10 * s + 7 → getD panel x 0 ≡ 0) → codesRanged panel s ≡ true
-  zeros-input e h = input-codes e ∙ zeros-true panel (10 * s + 1) 6 (λ x low high. h x (omega arith) (omega arith))
+  pub zeros-input : kindIn panel s ≡ input → ((x : ℕ) → signalByte s codesColumn ≤ x → x < signalByte s handColumn → getD panel x 0 ≡ 0) → codesRanged panel s ≡ true
+  zeros-input e h = input-codes e ∙ zeros-true panel (signalByte s codesColumn) 6 (λ x low high. h x (omega arith) (omega arith))
 
-  pub supplied-gate : (kindIn panel s ≡ input → ⊥) → isFunction (getD panel (10 * s + 1) 0) ≡ true
-      → ((k : ℕ) → k < 5 → isTranslation (getD panel (10 * s + 2 + k) 0) ≡ true) → codesRanged panel s ≡ true
+  pub supplied-gate : (kindIn panel s ≡ input → ⊥) → isFunction (columnIn panel s codesColumn) ≡ true
+      → ((k : ℕ) → k < 5 → isTranslation (getD panel (signalByte s (codesColumn + 1) + k) 0) ≡ true) → codesRanged panel s ≡ true
   supplied-gate d f g = gate-codes d ∙ and-true _ _ f (all-true _ 5 g)
 
   -- an input's zeros are codes that are supplied too
   codes-supplied : codesRanged panel s ≡ true → supplied ≡ true
   codes-supplied h = go (eqb (kindIn panel s) input) refl
     where
-      first : (kindIn panel s ≡ input) → isFunction (getD panel (10 * s + 1) 0) ≡ true
+      first : (kindIn panel s ≡ input) → isFunction (columnIn panel s codesColumn) ≡ true
       first e =
-          subst (λ (x : ℕ). isFunction x ≡ true) (sym (input-zeros h e (10 * s + 1) (omega arith) (omega arith))) zero-function
+          subst (λ (x : ℕ). isFunction x ≡ true) (sym (input-zeros h e (signalByte s codesColumn) (omega arith) (omega arith))) zero-function
 
-      rest : (kindIn panel s ≡ input) → (k : ℕ) → k < 5 → isTranslation (getD panel (10 * s + 2 + k) 0) ≡ true
+      rest : (kindIn panel s ≡ input) → (k : ℕ) → k < 5 → isTranslation (getD panel (signalByte s (codesColumn + 1) + k) 0) ≡ true
       rest e k l =
-          subst (λ (x : ℕ). isTranslation x ≡ true) (sym (input-zeros h e (10 * s + 2 + k) (omega arith) (omega arith))) zero-translation
+          subst (λ (x : ℕ). isTranslation x ≡ true) (sym (input-zeros h e (signalByte s (codesColumn + 1) + k) (omega arith) (omega arith))) zero-translation
 
       go : (b : Bool) → eqb (kindIn panel s) input ≡ b → supplied ≡ true
       go true e = let i = eqb-true (kindIn panel s) input e in and-true _ _ (first i) (all-true _ 5 (rest i))
       go false e = sym (gate-codes (eqb-false (kindIn panel s) input e)) ∙ h
 
-  pub codes-function : codesRanged panel s ≡ true → isFunction (getD panel (10 * s + 1) 0) ≡ true
+  pub codes-function : codesRanged panel s ≡ true → isFunction (columnIn panel s codesColumn) ≡ true
   codes-function h = and-left _ _ (codes-supplied h)
 
-  pub codes-translation : codesRanged panel s ≡ true → (k : ℕ) → k < 5 → isTranslation (getD panel (10 * s + 2 + k) 0) ≡ true
-  codes-translation h k l = all-at (λ j. isTranslation (getD panel (10 * s + 2 + j) 0)) 5 (and-right _ _ (codes-supplied h)) k l
+  pub codes-translation : codesRanged panel s ≡ true → (k : ℕ) → k < 5 → isTranslation (getD panel (signalByte s (codesColumn + 1) + k) 0) ≡ true
+  codes-translation h k l = all-at (λ j. isTranslation (getD panel (signalByte s (codesColumn + 1) + j) 0)) 5 (and-right _ _ (codes-supplied h)) k l

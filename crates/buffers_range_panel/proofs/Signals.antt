@@ -5,7 +5,7 @@ use mathlib.Core.Bool.{true, false}
 use mathlib.Core.List.{List}
 use Rattle.logic.specs.Test.{all}
 use Rattle.logic.proofs.Tests.{all-fails, all-ends}
-use Rattle.buffers_tables.specs.Panel.{signalsIn}
+use Rattle.buffers_tables.specs.Panel.{panelStride, signalStart, signalsIn}
 use Rattle.buffers_runs.specs.Zeros.{zeros}
 use Rattle.buffers_range_panel.specs.Ranges.{headRanged, signalRanged, panelRanged}
 use Rattle.logic.proofs.Judged.{no, yes}
@@ -16,7 +16,7 @@ module _ (panel : List ℕ) (signals k : ℕ) (is : signals ≡ signalsIn panel)
   signals-stop l e = yes _ _ head ∙ no _ _ (all-fails (λ j. signalRanged panel (j + 1)) (signalsIn panel) k (rw is at l) e)
 
   pub signals-end : all k (λ j. signalRanged panel (j + 1)) ≡ true → k ≤ signals → signals ≤ k
-      → zeros panel (10 * (signals + 1)) (10 * (4096 - signals)) ≡ panelRanged panel
+      → zeros panel (signalStart (signals + 1)) (panelStride * (4096 - signals)) ≡ panelRanged panel
   unfolding panelRanged
   signals-end h low high =
       rw is (sym (yes _ _ head ∙ yes _ _ (all-ends (λ j. signalRanged panel (j + 1)) (signalsIn panel) k (rw is at low) (rw is at high) h)))

@@ -9,7 +9,7 @@ use Rattle.logic.specs.Choice.{if_then_else_}
 use Rattle.gates.specs.Translation.{isTranslation}
 use Rattle.gates.specs.Function.{isFunction}
 use Rattle.model.specs.Network.{input, rankOrder}
-use Rattle.buffers_tables.specs.Panel.{signalsIn, processorsIn, slotsIn, watchedIn, maskIn, kindIn, handIn, processorIn, slotIn}
+use Rattle.buffers_tables.specs.Panel.{panelStride, codesColumn, signalStart, signalByte, columnIn, signalsIn, processorsIn, slotsIn, watchedIn, maskIn, kindIn, handIn, processorIn, slotIn}
 use Rattle.buffers_runs.specs.Zeros.{zeros}
 
 -- "N (1 to 4096)", "P (1 to 16), C (1 to 256)", "the one watch (signal, mask 0 to 15 ..)". The cycles finished are 0 to 65535, as every
@@ -25,8 +25,8 @@ headRanged panel =
 -- "Kind 1 is an input (ten zeros follow), 2 unit-delay, 3 rank-order": f and g1 to g5 of signal s
 unfoldable pub codesRanged : List ℕ → ℕ → Bool
 codesRanged panel s =
-    if eqb (kindIn panel s) input then zeros panel (10 * s + 1) 6 else
-    isFunction (getD panel (10 * s + 1) 0) and all 5 (λ k. isTranslation (getD panel (10 * s + 2 + k) 0))
+    if eqb (kindIn panel s) input then zeros panel (signalByte s codesColumn) 6 else
+    isFunction (columnIn panel s codesColumn) and all 5 (λ k. isTranslation (getD panel (signalByte s (codesColumn + 1) + k) 0))
 
 -- the numbers of signal s, "a value 0 to 3" and a place among them
 unfoldable pub signalRanged : List ℕ → ℕ → Bool
@@ -42,4 +42,4 @@ unfoldable pub panelRanged : List ℕ → Bool
 panelRanged panel =
     headRanged panel
     and all (signalsIn panel) (λ k. signalRanged panel (k + 1))
-    and zeros panel (10 * (signalsIn panel + 1)) (10 * (4096 - signalsIn panel))
+    and zeros panel (signalStart (signalsIn panel + 1)) (panelStride * (4096 - signalsIn panel))

@@ -7,6 +7,8 @@ ghost use lib.ListN.{length};
 ghost use Rattle.logic.specs.Test.{_and_};
 ghost use Rattle.buffers_tables.specs.Panel.{panelLength};
 ghost use Rattle.buffers_range_panel.specs.Ranges.{headRanged, codesRanged, signalRanged, panelRanged};
+use buffers_tables::CODES;
+use buffers_tables::PANEL_STRIDE;
 
 // A number from 1 up to a limit.
 fn counted(x: u16, most: u16) -> bool
@@ -23,20 +25,20 @@ fn head_right(panel: &[u8]) -> bool
     requires { ⌜ length (now panel) ≡ panelLength ⌝ }
     ensures { λ r. ⌜ r ≡ headRanged (now (panel .entry)) ⌝ }
 {
-    let signals = words::word_at(panel, 0);
+    let signals = buffers_tables::signals(panel);
     if !counted(signals, 4096) {
         return false;
     }
-    if !counted(words::widened(panel[2]), 16) {
+    if !counted(buffers_tables::processors(panel) as u16, 16) {
         return false;
     }
-    if !counted(words::word_at(panel, 3), 256) {
+    if !counted(buffers_tables::slots(panel), 256) {
         return false;
     }
-    if !counted(words::word_at(panel, 7), signals) {
+    if !counted(buffers_tables::watched(panel), signals) {
         return false;
     }
-    panel[9] <= 15
+    buffers_tables::mask(panel) <= 15
 }
 
 // The codes of a signal: zeros of an input, codes that are supplied of a gate.
@@ -44,14 +46,14 @@ fn codes_right(panel: &[u8], signal: usize) -> bool
     requires { ⌜ (length (now panel) ≡ panelLength) × (signal ≤ 4096) ⌝ }
     ensures { λ r. ⌜ r ≡ codesRanged (now (panel .entry)) signal ⌝ }
 {
-    let at = 10 * signal;
-    if panel[at] == 1 {
-        return buffers_runs::all_zero(panel, at + 1, 6);
+    let at = PANEL_STRIDE * signal;
+    if buffers_tables::kind(panel, signal) == 1 {
+        return buffers_runs::all_zero(panel, at + CODES, 6);
     }
-    if !gates::is_function(words::widened(panel[at + 1])) {
+    if !gates::is_function(words::widened(panel[at + CODES])) {
         return false;
     }
-    buffers_runs::all_translations(panel, at + 2, 5)
+    buffers_runs::all_translations(panel, at + (CODES + 1), 5)
 }
 
 // The numbers of a signal: kind, codes, value in hand, and its place among P processors and C slots.
@@ -59,20 +61,19 @@ fn signal_right(panel: &[u8], signal: usize) -> bool
     requires { ⌜ (length (now panel) ≡ panelLength) × (signal ≤ 4096) ⌝ }
     ensures { λ r. ⌜ r ≡ signalRanged (now (panel .entry)) signal ⌝ }
 {
-    let at = 10 * signal;
-    if !counted(words::widened(panel[at]), 3) {
+    if !counted(words::widened(buffers_tables::kind(panel, signal)), 3) {
         return false;
     }
     if !codes_right(panel, signal) {
         return false;
     }
-    if 3 < panel[at + 7] {
+    if 3 < buffers_tables::hand(panel, signal) {
         return false;
     }
-    if panel[2] <= panel[at + 8] {
+    if buffers_tables::processors(panel) <= buffers_tables::place_processor(panel, signal) {
         return false;
     }
-    words::widened(panel[at + 9]) < words::word_at(panel, 3)
+    words::widened(buffers_tables::place_slot(panel, signal)) < buffers_tables::slots(panel)
 }
 
 // The panel: its head, signals 1 to N, and zeros above N.
@@ -83,7 +84,7 @@ pub fn panel_right(panel: &[u8]) -> bool
     if !head_right(panel) {
         return false;
     }
-    let signals = words::word_at(panel, 0) as usize;
+    let signals = buffers_tables::signals(panel) as usize;
     let mut k: usize = 0;
     while k < signals {
         if !signal_right(panel, k + 1) {
@@ -91,5 +92,9 @@ pub fn panel_right(panel: &[u8]) -> bool
         }
         k += 1;
     }
-    buffers_runs::all_zero(panel, 10 * (signals + 1), 10 * (4096 - signals))
+    buffers_runs::all_zero(
+        panel,
+        PANEL_STRIDE * (signals + 1),
+        PANEL_STRIDE * (4096 - signals),
+    )
 }

@@ -5,13 +5,12 @@ use mathlib.Core.Bool.{Bool, true, false, not}
 use mathlib.Core.List.{List}
 use native.Mathlib.Omega.{arith}
 use lib.Dec.{eqb, leb, ltb}
-use lib.ListN.{getD}
 use Rattle.logic.specs.Test.{_and_, _or_, all}
 use Rattle.logic.specs.Choice.{if_then_else_}
 use Rattle.model.specs.Module.{switchPresent}
 use Rattle.model.specs.ModuleFile.{locationLayout, operandLayout, sendLayout, senderLayout}
 use Rattle.buffers_tables.specs.Panel.{signalsIn, processorsIn, slotsIn}
-use Rattle.buffers_tables.specs.Program.{lineIn, partAt, locationAt}
+use Rattle.buffers_tables.specs.Program.{operandsColumn, pairStride, operandColumn, sendColumn, lineIn, partAt, locationAt, sendPartAt, sendLocationAt}
 use Rattle.buffers_tables.specs.Tables.{networkIn, moduleIn}
 use Rattle.buffers_range_program.specs.Ranges.{lineRanged}
 use Rattle.instruction.specs.Sender.{senderLaid}
@@ -33,26 +32,26 @@ pair-order slots most part k = go (leb part most) (eqb part 9) (ltb k slots) (eq
     go false false true d = refl
 
 module _ (panel program : List ℕ) (p i : ℕ) where
-  operand-order : (j place : ℕ) → place ≡ lineIn p i + 2 + 2 * j
+  operand-order : (j place : ℕ) → place ≡ lineIn p i + operandsColumn + pairStride * j
       → operandLayout (moduleIn panel program) p i j ≡ pairAt program place switchPresent (slotsIn panel)
   unfolding moduleIn operandLayout locationLayout
   operand-order j place e =
-      let q : place + 1 ≡ lineIn p i + 3 + 2 * j = omega arith in
+      let q : place + 1 ≡ lineIn p i + (operandsColumn + 1) + pairStride * j = omega arith in
       pair-order (slotsIn panel) 3 (partAt program p i j) (locationAt program p i j) ∙ rw (q, e)
 
   operands-order : all 4 (operandLayout (moduleIn panel program) p i) ≡ operandsAt program (lineIn p i) (slotsIn panel)
   unfolding operandsAt
   operands-order =
       all-four (operandLayout (moduleIn panel program) p i)
-      ∙ ap₂ _and_ (operand-order 0 (lineIn p i + 2) (omega arith))
-      (ap₂ _and_ (operand-order 1 (lineIn p i + 4) (omega arith))
-      (ap₂ _and_ (operand-order 2 (lineIn p i + 6) (omega arith)) (operand-order 3 (lineIn p i + 8) (omega arith))))
+      ∙ ap₂ _and_ (operand-order 0 (lineIn p i + operandColumn 0) (omega arith))
+      (ap₂ _and_ (operand-order 1 (lineIn p i + operandColumn 1) (omega arith))
+      (ap₂ _and_ (operand-order 2 (lineIn p i + operandColumn 2) (omega arith)) (operand-order 3 (lineIn p i + operandColumn 3) (omega arith))))
 
-  send-order : sendLayout (moduleIn panel program) p i ≡ pairAt program (lineIn p i + 10) 1 (slotsIn panel)
+  send-order : sendLayout (moduleIn panel program) p i ≡ pairAt program (lineIn p i + sendColumn) 1 (slotsIn panel)
   unfolding moduleIn sendLayout locationLayout
   send-order =
-      let q : lineIn p i + 10 + 1 ≡ lineIn p i + 11 = omega arith in
-      pair-order (slotsIn panel) 1 (getD program (lineIn p i + 10) 0) (getD program (lineIn p i + 11) 0) ∙ rw q
+      let q : lineIn p i + sendColumn + 1 ≡ lineIn p i + (sendColumn + 1) = omega arith in
+      pair-order (slotsIn panel) 1 (sendPartAt program p i) (sendLocationAt program p i) ∙ rw q
 
   pub line-order : (place : ℕ) → place ≡ lineIn p i
       → lineRanged (networkIn panel program) (moduleIn panel program) p i ≡ lineAt program place (signalsIn panel) (processorsIn panel) (slotsIn panel)

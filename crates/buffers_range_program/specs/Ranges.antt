@@ -10,6 +10,7 @@ use Rattle.model.specs.Module.{Module}
 use Rattle.model.specs.ModuleFile.{operandLayout, sendLayout, senderLayout}
 use Rattle.buffers_memory.specs.Memory.{within}
 use Rattle.buffers_tables.specs.Panel.{processorsIn, slotsIn}
+use Rattle.buffers_tables.specs.Program.{lineStride, slotLines}
 use Rattle.buffers_tables.specs.Tables.{networkIn, moduleIn}
 use Rattle.buffers_runs.specs.Zeros.{zeros}
 
@@ -17,10 +18,10 @@ use Rattle.buffers_runs.specs.Zeros.{zeros}
 unfoldable pub lineRanged : Network → Module → ℕ → ℕ → Bool
 lineRanged n m p i = leb (m .signal p i) (n .size) and all 4 (operandLayout m p i) and sendLayout m p i and senderLayout m p i
 
--- every line of the program, that of processor k % 16 and slot k / 16 being the k-th
+-- every line of the program, slot by slot: the k-th is that of processor k % 16 and slot k / 16
 unfoldable pub programRanged : List ℕ → List ℕ → Bool
 programRanged panel program =
     all 4096 (λ k.
-    if within (processorsIn panel) (slotsIn panel) (k % 16) (k / 16)
-    then lineRanged (networkIn panel program) (moduleIn panel program) (k % 16) (k / 16)
-    else zeros program (13 * k) 13)
+    if within (processorsIn panel) (slotsIn panel) (k % slotLines) (k / slotLines)
+    then lineRanged (networkIn panel program) (moduleIn panel program) (k % slotLines) (k / slotLines)
+    else zeros program (lineStride * k) lineStride)

@@ -6,9 +6,18 @@ ghost use lib.Dec.{eqb, leb};
 ghost use lib.ListN.{length};
 ghost use Rattle.logic.specs.Test.{one};
 ghost use Rattle.buffers_tables.specs.Panel.{panelLength, processorsIn, slotsIn};
-ghost use Rattle.buffers_tables.specs.Program.{programLength};
+ghost use Rattle.buffers_tables.specs.Program.{programLength, lineStride};
 ghost use Rattle.buffers_range_program.specs.Ranges.{programRanged};
 ghost use Rattle.buffers_range_program.specs.Order.{pairAt, operandsAt, lineAt, slotAt, slotsAt};
+use buffers_tables::LINE_STRIDE;
+use buffers_tables::OPERAND1;
+use buffers_tables::OPERAND2;
+use buffers_tables::OPERAND3;
+use buffers_tables::OPERAND4;
+use buffers_tables::SEND;
+use buffers_tables::SENDER;
+use buffers_tables::SLOT_LINES;
+use buffers_tables::SLOT_STRIDE;
 
 // 1 where a number reaches a limit that it has to stay below, else 0.
 fn reaches(x: u16, limit: u16) -> u8
@@ -38,29 +47,32 @@ fn pair_faults(program: &[u8], at: usize, most: u16, slots: u16) -> u8
 
 // The faults of the four operands of the line at a place: "part 0 to 3 or 9".
 fn operand_faults(program: &[u8], at: usize, slots: u16) -> u8
-    requires { ⌜ (at + 13 ≤ length (now program)) × (1 ≤ slots) ⌝ }
+    requires { ⌜ (at + lineStride ≤ length (now program)) × (1 ≤ slots) ⌝ }
     ensures { λ r. ⌜ (eqb r 0 ≡ operandsAt (now (program .entry)) at slots) × (r ≤ 8) ⌝ }
 {
-    let first = pair_faults(program, at + 2, 3, slots);
-    let second = pair_faults(program, at + 4, 3, slots);
-    let third = pair_faults(program, at + 6, 3, slots);
-    let fourth = pair_faults(program, at + 8, 3, slots);
+    let first = pair_faults(program, at + OPERAND1, 3, slots);
+    let second = pair_faults(program, at + OPERAND2, 3, slots);
+    let third = pair_faults(program, at + OPERAND3, 3, slots);
+    let fourth = pair_faults(program, at + OPERAND4, 3, slots);
     first + second + third + fourth
 }
 
 // The line at a place: "signal (1 to N, or 0: empty slot)", the operands, "a send 0, 1 or 9", and the processor received from.
 fn line_right(program: &[u8], at: usize, signals: u16, processors: u8, slots: u16) -> bool
-    requires { ⌜ (at + 13 ≤ length (now program)) × (1 ≤ slots) ⌝ }
+    requires { ⌜ (at + lineStride ≤ length (now program)) × (1 ≤ slots) ⌝ }
     ensures { λ r. ⌜ r ≡ lineAt (now (program .entry)) at signals processors slots ⌝ }
 {
     if signals < words::word_at(program, at) {
         return false;
     }
-    let faults = operand_faults(program, at, slots) + pair_faults(program, at + 10, 1, slots);
+    let faults = operand_faults(program, at, slots) + pair_faults(program, at + SEND, 1, slots);
     if faults != 0 {
         return false;
     }
-    instruction::sender_right(words::widened(program[at + 12]), words::widened(processors))
+    instruction::sender_right(
+        words::widened(program[at + SENDER]),
+        words::widened(processors),
+    )
 }
 
 // The 16 lines of a slot: those of P processors, and zeros.
@@ -68,16 +80,20 @@ fn slot_right(program: &[u8], slot: usize, signals: u16, processors: u8, slots: 
     requires { ⌜ (length (now program) ≡ programLength) × (slot < 256) × (processors ≤ 16) × (1 ≤ slots) ⌝ }
     ensures { λ r. ⌜ r ≡ slotAt (now (program .entry)) slot signals processors slots ⌝ }
 {
-    let at = 208 * slot;
+    let at = SLOT_STRIDE * slot;
     let lines = processors as usize;
     let mut p: usize = 0;
     while p < lines {
-        if !line_right(program, at + 13 * p, signals, processors, slots) {
+        if !line_right(program, at + LINE_STRIDE * p, signals, processors, slots) {
             return false;
         }
         p += 1;
     }
-    buffers_runs::all_zero(program, at + 13 * lines, 13 * (16 - lines))
+    buffers_runs::all_zero(
+        program,
+        at + LINE_STRIDE * lines,
+        LINE_STRIDE * (SLOT_LINES - lines),
+    )
 }
 
 // The 256 slots: C of them, and zeros.
@@ -93,7 +109,7 @@ fn slots_right(program: &[u8], signals: u16, processors: u8, slots: u16) -> bool
         }
         i += 1;
     }
-    buffers_runs::all_zero(program, 208 * count, 208 * (256 - count))
+    buffers_runs::all_zero(program, SLOT_STRIDE * count, SLOT_STRIDE * (256 - count))
 }
 
 // The program, N, P and C being the panel's.
@@ -104,8 +120,8 @@ pub fn program_right(panel: &[u8], program: &[u8]) -> bool
 {
     slots_right(
         program,
-        words::word_at(panel, 0),
-        panel[2],
-        words::word_at(panel, 3),
+        buffers_tables::signals(panel),
+        buffers_tables::processors(panel) as u8,
+        buffers_tables::slots(panel),
     )
 }

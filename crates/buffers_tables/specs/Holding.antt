@@ -1,10 +1,10 @@
 -- The tables hold a network and a module: the same numbers at every line and every signal.
-use Prim.Native.Nat.{ℕ, _<_}
+use Prim.Native.Nat.{ℕ, _<_, _≤_}
 use mathlib.Core.Path.{_≡_}
 use mathlib.Core.List.{List}
 use Rattle.model.specs.Network.{Network, Signal}
 use Rattle.model.specs.Module.{Module, At}
-use Rattle.buffers_tables.specs.Panel.{processorIn, slotIn}
+use Rattle.buffers_tables.specs.Panel.{panelStride, handColumn, signalsIn, processorsIn, slotsIn, columnIn, processorIn, slotIn}
 use Rattle.buffers_tables.specs.Tables.{networkIn, moduleIn}
 
 -- a has the sizes of b, and the same lines at its processors and slots
@@ -33,3 +33,10 @@ pub record Holding (n : Network) (m : Module) (panel program : List ℕ) : Type 
   pub lines : SameLines (moduleIn panel program) m
   pub signals : SameGates (networkIn panel program) n
   pub places : (s : ℕ) → Signal n s → PlacedIn m panel s
+
+-- two panels have the same numbers where no call writes: N, P, C, and of every signal all but the value in hand
+pub record SameFixed (a b : List ℕ) : Type 0 where
+  pub signals : signalsIn a ≡ signalsIn b
+  pub processors : processorsIn a ≡ processorsIn b
+  pub slots : slotsIn a ≡ slotsIn b
+  pub columns : (s column : ℕ) → 1 ≤ s → column < panelStride → (column ≡ handColumn → ⊥) → columnIn a s column ≡ columnIn b s column

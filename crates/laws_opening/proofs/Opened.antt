@@ -1,5 +1,5 @@
 -- The buffers that an accepted opening leaves are in range, and those that a refused one leaves are not (01, Session, 44).
-use Prim.Native.Nat.{ℕ, _+_, _-_, _*_, _/_, _%_, _<_, _≤_}
+use Prim.Native.Nat.{ℕ, _+_, _-_, _<_, _≤_}
 use mathlib.Core.Path.{_≡_, refl, sym, _∙_, ap, subst}
 use mathlib.Core.Bool.{Bool, true, false}
 use mathlib.Core.List.{List}
@@ -30,8 +30,9 @@ use Rattle.model.proofs.Machine.{Small, opening-small}
 use Rattle.buffers_memory.specs.Memory.{blank, place, within}
 use Rattle.buffers_memory.proofs.Written.{Place, written-at}
 use Rattle.buffers_memory.proofs.Within.{within-true}
-use Rattle.buffers_tables.specs.Panel.{panelLength, signalsIn, processorsIn, slotsIn, kindIn}
+use Rattle.buffers_tables.specs.Panel.{panelLength, codesColumn, handColumn, signalStart, signalByte, columnIn, signalOf, columnOf, signalsIn, processorsIn, slotsIn, kindIn}
 use Rattle.buffers_tables.specs.Tables.{networkIn, moduleIn}
+use Rattle.buffers_tables.proofs.Places.{byte-is, column-low, signal-high}
 use Rattle.buffers_range_panel.specs.Ranges.{codesRanged}
 use Rattle.buffers_range.specs.Ranges.{ranged}
 use Rattle.buffers_range_panel.proofs.Numbers.{Head, Numbers, Panel, zeros-input, supplied-gate}
@@ -136,7 +137,7 @@ module _ {limit : ℕ} (few : limit ≤ panelLimit) (files : Files) (accepted : 
     right : SignalRight net s
     right = checked-signal net n s is-signal
 
-    code-at : (c : ℕ) → 1 ≤ c → c < 7 → getD panel (10 * s + c) 0 ≡ netField net s (c + 1)
+    code-at : (c : ℕ) → codesColumn ≤ c → c < handColumn → columnIn panel s c ≡ netField net s (c + 1)
     code-at c l h = signal-byte few files accepted s is-signal c _ (omega arith) refl ∙ sym (code-byte net s _ _ _ c l h)
 
     kind-is : kindIn panel s ≡ netField net s 0
@@ -147,19 +148,19 @@ module _ {limit : ℕ} (few : limit ≤ panelLimit) (files : Files) (accepted : 
     input-in-range e =
         zeros-input panel s (kind-is ∙ e)
         (λ x above below.
-        let q : 10 * s + (x - 10 * s) ≡ x = omega arith in
+        let q : signalByte s (x - signalStart s) ≡ x = omega arith in
         subst (λ (y : ℕ). getD panel y 0 ≡ 0) q
-        (code-at (x - 10 * s) (omega arith) (omega arith) ∙ right .zeros e (x - 10 * s + 1) (omega arith) (omega arith)))
+        (code-at (x - signalStart s) (omega arith) (omega arith) ∙ right .zeros e (x - signalStart s + 1) (omega arith) (omega arith)))
 
     gate-in-range : (netField net s 0 ≡ input → ⊥) → codesRanged panel s ≡ true
     gate-in-range d =
         supplied-gate panel s (λ e. d (sym kind-is ∙ e))
-        (subst (λ (y : ℕ). isFunction y ≡ true) (sym (code-at 1 (omega arith) (omega arith))) (right .function))
+        (subst (λ (y : ℕ). isFunction y ≡ true) (sym (code-at codesColumn (omega arith) (omega arith))) (right .function))
         (λ k l.
-        let q : 10 * s + (2 + k) ≡ 10 * s + 2 + k = omega arith in
-        let r : 2 + k + 1 ≡ 3 + k = omega arith in
+        let q : signalByte s (codesColumn + 1 + k) ≡ signalByte s (codesColumn + 1) + k = omega arith in
+        let r : codesColumn + 1 + k + 1 ≡ 3 + k = omega arith in
         subst (λ (y : ℕ). isTranslation y ≡ true)
-        (ap (λ (y : ℕ). netField net s y) (sym r) ∙ sym (code-at (2 + k) (omega arith) (omega arith)) ∙ ap (λ (y : ℕ). getD panel y 0) q)
+        (ap (λ (y : ℕ). netField net s y) (sym r) ∙ sym (code-at (codesColumn + 1 + k) (omega arith) (omega arith)) ∙ ap (λ (y : ℕ). getD panel y 0) q)
         (right .translations k l))
 
     kind-range : (1 ≤ netField net s 0) × (netField net s 0 ≤ 3)
@@ -199,8 +200,8 @@ module _ {limit : ℕ} (few : limit ≤ panelLimit) (files : Files) (accepted : 
         head = head;
         signals = λ s low high. numbers s low (omega arith);
         rest = λ x low high.
-            panel-byte files (x / 10) (x % 10) x (omega arith) (omega arith) (omega arith)
-            ∙ panel-above net _ _ (placeOf modfile) (timeZero files) (x % 10) (x / 10) (omega arith);
+            panel-byte files (signalOf x) (columnOf x) x (signal-high x high) (column-low x) (sym (byte-is x))
+            ∙ panel-above net _ _ (placeOf modfile) (timeZero files) (columnOf x) (signalOf x) (omega arith);
       }
 
   -- the program

@@ -9,20 +9,23 @@ ghost use Rattle.model.specs.Acceptance.{panelLimit, fileCheck, Accepted};
 ghost use Rattle.model.specs.Stimulus.{stimCount};
 ghost use Rattle.file_checks.specs.Answer.{fileRefusal};
 ghost use Rattle.listing_print.specs.Handing.{partAt, partCount, partsAfter, Handing};
+use buffers_memory::MEMORY_BYTES;
+use buffers_tables::PANEL_BYTES;
+use buffers_tables::PROGRAM_BYTES;
 use clock::Cycle;
 use file_checks::FileAnswer;
 use libc::STDOUT_FILENO;
 
-fn panel_buffer() -> [u8; 40970] {
-    [0; 40970]
+fn panel_buffer() -> [u8; PANEL_BYTES] {
+    [0; PANEL_BYTES]
 }
 
-fn program_buffer() -> [u8; 53248] {
-    [0; 53248]
+fn program_buffer() -> [u8; PROGRAM_BYTES] {
+    [0; PROGRAM_BYTES]
 }
 
-fn memory_buffer() -> [u8; 20480] {
-    [0; 20480]
+fn memory_buffer() -> [u8; MEMORY_BYTES] {
+    [0; MEMORY_BYTES]
 }
 
 fn piece_buffer() -> [u8; 77824] {

@@ -7,13 +7,10 @@ use native.Mathlib.Omega.{arith}
 use lib.Dec.{eqb}
 use lib.ListN.{length, getD, set}
 use lib.Seq.{getD-set-same, getD-set-other}
-use borrow.Author.Tests.{eq-eqb, ne-eqb, eqb-true, eqb-false}
+use borrow.Author.Tests.{eq-eqb, eqb-true, eqb-false}
 use Rattle.machine_slot.specs.Storing.{storedIf, FirstAre}
 
--- stored unless x is the number that says none
-pub store-some : (x none : ℕ) (l : List ℕ) (at place v : ℕ) → (x ≡ none → ⊥) → at ≡ place → set l at v ≡ storedIf (not (eqb x none)) l place v
-store-some x none l at place v d e = rw (ne-eqb x none d, e)
-
+-- not stored where x is the number that says none
 pub store-none : (x none : ℕ) (l : List ℕ) (place v : ℕ) → x ≡ none → l ≡ storedIf (not (eqb x none)) l place v
 store-none x none l place v e = rw (eq-eqb x none e)
 

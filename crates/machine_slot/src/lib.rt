@@ -1,5 +1,7 @@
 // One slot of the lockstep machine: "every processor fetches first, then stores" (01, One cycle of the machine).
 
+use buffers_memory::LOCAL_PRESENT;
+use buffers_memory::SWITCH_PRESENT;
 use clock::Slot;
 use instruction::Instruction;
 ghost use mathlib.Core.Path.{_≡_};
@@ -44,8 +46,8 @@ fn evaluate(panel: &[u8], memory: &[u8], processor: usize, line: Instruction) ->
     if signal == 0 {
         return 0;
     }
-    if panel[10 * signal] == 1 {
-        return panel[10 * signal + 7];
+    if buffers_tables::kind(panel, signal) == 1 {
+        return buffers_tables::hand(panel, signal);
     }
     gate_on(panel, memory, processor, line)
 }
@@ -83,7 +85,7 @@ fn store_result(signal: u16, processor: usize, slot: Slot, value: u8, memory: &m
 {
     let i = slot.0;
     if signal != 0 {
-        memory[1280 * processor + 256 + (i as usize)] = value;
+        buffers_memory::store(memory, processor, LOCAL_PRESENT, i as usize, value);
     }
 }
 
@@ -95,7 +97,13 @@ fn store_received(sender: u8, processor: usize, slot: Slot, sent: &[u8], memory:
 {
     let i = slot.0;
     if sender != 99 {
-        memory[1280 * processor + 768 + (i as usize)] = sent[sender as usize];
+        buffers_memory::store(
+            memory,
+            processor,
+            SWITCH_PRESENT,
+            i as usize,
+            sent[sender as usize],
+        );
     }
 }
 

@@ -1,8 +1,8 @@
 -- The first a bytes are those of the opening memory.
-use Prim.Native.Nat.{_-_, _/_, _%_}
+use Prim.Native.Nat.{_-_}
 use native.Mathlib.Omega.{arith}
 use borrow.Author.Needs.{needs}
-use Rattle.buffers_memory.specs.Memory.{memoryLength, written}
+use Rattle.buffers_memory.specs.Memory.{memoryLength, byteProcessor, bytePart, byteLocation, written}
 use Rattle.buffers_load_files.specs.Checked.{valueIn}
 use Rattle.buffers_load_memory.specs.Bytes.{openingByte}
 use Rattle.logic.proofs.Filling.{Filled, fill-starts, fill-more, fill-ends}
@@ -10,7 +10,7 @@ use Rattle.buffers_load_memory.proofs.load_memory.Statement.{statement}
 use Rattle.buffers_load_memory.proofs.load_memory.Tie as tie
 
 abbrev Inv-loop : tie.InvT-loop
-Inv-loop modfile values memory₀ processors slots a₀ memory a = Filled (λ a. openingByte modfile (valueIn values) (a / 1280) (a % 1280 / 256) (a % 256)) memoryLength a memory
+Inv-loop modfile values memory₀ processors slots a₀ memory a = Filled (λ a. openingByte modfile (valueIn values) (byteProcessor a) (bytePart a) (byteLocation a)) memoryLength a memory
 
 abbrev μ-loop : tie.MeasureT-loop
 μ-loop modfile values memory₀ processors slots a₀ memory a = memoryLength - a

@@ -1,8 +1,8 @@
 -- The first a bytes are those of the panel.
-use Prim.Native.Nat.{_-_, _/_, _%_}
+use Prim.Native.Nat.{_-_}
 use native.Mathlib.Omega.{arith}
 use borrow.Author.Needs.{needs}
-use Rattle.buffers_tables.specs.Panel.{panelLength}
+use Rattle.buffers_tables.specs.Panel.{panelLength, signalOf, columnOf}
 use Rattle.buffers_load_files.specs.Loaded.{panelByte}
 use Rattle.buffers_load_files.specs.Checked.{valueIn}
 use Rattle.logic.proofs.Filling.{Filled, fill-starts, fill-more, fill-ends}
@@ -10,7 +10,7 @@ use Rattle.buffers_load_panel.proofs.fill_panel.Statement.{statement}
 use Rattle.buffers_load_panel.proofs.fill_panel.Tie as tie
 
 abbrev Inv-loop : tie.InvT-loop
-Inv-loop net places values processors slots panel₀ signals a₀ panel a = Filled (λ a. panelByte net processors slots (valueIn places) (valueIn values) (a / 10) (a % 10)) panelLength a panel
+Inv-loop net places values processors slots panel₀ signals a₀ panel a = Filled (λ a. panelByte net processors slots (valueIn places) (valueIn values) (signalOf a) (columnOf a)) panelLength a panel
 
 abbrev μ-loop : tie.MeasureT-loop
 μ-loop net places values processors slots panel₀ signals a₀ panel a = panelLength - a

@@ -1,6 +1,6 @@
--- Columns 0 to 4 and 7 by computation; every other byte of the head is 0, by `head-zeros`.
+-- The columns of N, P, C and the watch by computation; every other byte of the head is 0, by `head-zeros`.
 use mathlib.Core.Path.{sym}
-use Rattle.buffers_load_panel.proofs.Panel.{head-zeros}
+use Rattle.buffers_tables.proofs.Places.{head-zeros}
 use borrow.Author.Needs.{needs}
 use Rattle.buffers_load_panel.proofs.head_byte.Statement.{statement}
 use Rattle.buffers_load_panel.proofs.head_byte.Tie as tie
@@ -29,11 +29,13 @@ head-byte-spec =
     (λ c. search needs)
     returns
     (λ c. search needs)
+    (λ c. search needs)
     returns-2
     (λ c. search needs)
     (λ c. search needs)
     (λ c. search needs)
     returns-4
+    (λ c. search needs)
     (λ c. search needs)
     returns-5
     (λ c. search needs)

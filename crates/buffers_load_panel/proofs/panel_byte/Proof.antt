@@ -1,10 +1,10 @@
 -- `panel_byte`: the session at 0, then the signals, then 0.
 use mathlib.Core.Path.{_∙_, sym, ap}
-use Prim.Native.Nat.{ℕ, _/_, _%_}
+use Prim.Native.Nat.{ℕ}
 use native.Mathlib.Omega.{arith}
 use lib.ListN.{getD}
 use Rattle.model.proofs.Checked.{checked-size}
-use Rattle.buffers_load_files.specs.Loaded.{headBytes}
+use Rattle.buffers_tables.specs.Panel.{headBytes, signalOf, columnOf}
 use Rattle.buffers_load_files.specs.Checked.{valueIn}
 use Rattle.buffers_load_panel.proofs.Panel.{panel-head, panel-above, panel-signal}
 use borrow.Author.Needs.{needs}
@@ -18,18 +18,18 @@ returns : tie.Need-returns
 returns c =
     let s = c .before .before .before .before .before in
     c .head-byte .ensures
-    ∙ ap (λ (n : ℕ). getD (headBytes n (s .args .processors) (s .args .slots)) (s .args .a % 10) 0) (s .pre .1 .0 .0)
-    ∙ sym (panel-head (s .args .net .now) (s .args .processors) (s .args .slots) (valueIn (s .args .places .now)) (valueIn (s .args .values .now)) (s .args .a % 10) (s .args .a / 10) (c .before .if1 .taken))
+    ∙ ap (λ (n : ℕ). getD (headBytes n (s .args .processors) (s .args .slots) 0 1 0) (columnOf (s .args .a)) 0) (s .pre .1 .0 .0)
+    ∙ sym (panel-head (s .args .net .now) (s .args .processors) (s .args .slots) (valueIn (s .args .places .now)) (valueIn (s .args .values .now)) (columnOf (s .args .a)) (signalOf (s .args .a)) (c .before .if1 .taken))
 
 returns-2 : tie.Need-returns-2
 returns-2 c =
     let s = c .before .before .before .before .before in
-    sym (panel-above (s .args .net .now) (s .args .processors) (s .args .slots) (valueIn (s .args .places .now)) (valueIn (s .args .values .now)) (s .args .a % 10) (s .args .a / 10) (omega (arith, s .pre .1 .0 .0)))
+    sym (panel-above (s .args .net .now) (s .args .processors) (s .args .slots) (valueIn (s .args .places .now)) (valueIn (s .args .values .now)) (columnOf (s .args .a)) (signalOf (s .args .a)) (omega (arith, s .pre .1 .0 .0)))
 
 signal-byte-requires : tie.Need-signal-byte-requires
 signal-byte-requires c κs =
     let s = c .before .before .before .before .before .before .before .before in
-    (s .pre .0, (omega (arith, c .before .before .before .before .if1 .left), omega (arith, s .pre .1 .0 .0), s .pre .1 .0 .2, s .pre .1 .0 .3, omega (arith, c .line-index .ensures, s .pre .1 .1 .1 .few (s .args .a / 10) (omega arith)), omega arith))
+    (s .pre .0, (omega (arith, c .before .before .before .before .if1 .left), omega (arith, s .pre .1 .0 .0), s .pre .1 .0 .2, s .pre .1 .0 .3, omega (arith, c .line-index .ensures, s .pre .1 .1 .1 .few (signalOf (s .args .a)) (omega arith)), omega arith))
 
 returns-3 : tie.Need-returns-3
 returns-3 c =
@@ -37,7 +37,7 @@ returns-3 c =
     let test = index .before .before .before .before in
     let s = test .before .before .before .before in
     rw (
-      panel-signal (s .args .net .now) (s .args .processors) (s .args .slots) (valueIn (s .args .places .now)) (valueIn (s .args .values .now)) (s .args .a % 10) (s .args .a / 10) (test .if1 .left) (omega (arith, s .pre .1 .0 .0)),
+      panel-signal (s .args .net .now) (s .args .processors) (s .args .slots) (valueIn (s .args .places .now)) (valueIn (s .args .values .now)) (columnOf (s .args .a)) (signalOf (s .args .a)) (test .if1 .left) (omega (arith, s .pre .1 .0 .0)),
       ← index .line-index .ensures,
     ) (c .signal-byte .ensures)
 

@@ -2,6 +2,7 @@
 use mathlib.Core.Path.{_≡_, _∙_, refl}
 use Prim.Native.Nat.{_*_, _≤_}
 use native.Mathlib.Omega.{arith}
+use Rattle.buffers_tables.specs.Panel.{codesColumn, slotColumn}
 use Rattle.model.proofs.Checked.{checked-size, checked-field}
 use Rattle.buffers_load_panel.proofs.Panel.{kind-small, code-small, kind-byte, code-byte, line-processor, line-slot}
 use borrow.Author.Needs.{needs}
@@ -32,13 +33,13 @@ number-at-requires-2 c κs = let s = c .before .before .before in checked-field 
 cast-result-2 : tie.Need-cast-result-2
 cast-result-2 c =
     let s = c .before .before .before .before in
-    let low : 1 ≤ s .args .column = omega (arith, c .before .before .if1 .left) in
+    let low : codesColumn ≤ s .args .column = omega (arith, c .before .before .if1 .left) in
     omega (arith, c .number-at2 .ensures, code-small _ (s .pre .0) (s .pre .1 .0) (s .pre .1 .1) (s .args .column) low (c .before .if2 .taken))
 
 returns-2 : tie.Need-returns-2
 returns-2 c =
     let s = c .before .before .before .before in
-    let low : 1 ≤ s .args .column = omega (arith, c .before .before .if1 .left) in
+    let low : codesColumn ≤ s .args .column = omega (arith, c .before .before .if1 .left) in
     c .number-at2 .ensures ∙ code-byte (s .args .net .now) (s .args .signal) _ _ _ (s .args .column) low (c .before .if2 .taken)
 
 cast-result-3 : tie.Need-cast-result-3
@@ -53,7 +54,7 @@ cast-result-4 c = let s = c .before .before .before .before .before in omega (ar
 returns-5 : tie.Need-returns-5
 returns-5 c =
     let s = c .before .before .before .before .before in
-    let e : s .args .column ≡ 9 = omega (arith, s .pre .1 .5) in
+    let e : s .args .column ≡ slotColumn = omega (arith, s .pre .1 .5) in
     rw e
 
 pub signal-byte-spec : {M : Type 1} → statement M

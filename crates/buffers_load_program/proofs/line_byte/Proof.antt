@@ -1,6 +1,7 @@
 -- `line_byte` reads the column of MOD that the byte is; what 21 leaves of the line bounds it.
 use Prim.Native.Nat.{_≤_, _<_}
 use Rattle.model.specs.ModuleFile.{modSlots}
+use Rattle.buffers_tables.specs.Program.{operandsColumn}
 use Rattle.buffers_load_program.proofs.Line.{column-small, signal-low, signal-high, line-column}
 use native.Mathlib.Omega.{arith}
 use borrow.Author.Needs.{needs}
@@ -17,13 +18,13 @@ cast-result-3 : tie.Need-cast-result-3
 cast-result-3 c =
     let s = c .before .before .before .before in
     let low : s .args .slot < modSlots (s .args .modfile .now) = omega (arith, s .pre .1 .0, s .pre .1 .2) in
-    let high : 2 ≤ s .args .column = omega arith in
+    let high : operandsColumn ≤ s .args .column = omega arith in
     omega (arith, c .field-at3 .ensures, column-small (s .pre .0) (s .pre .1 .1) low (s .args .column) high (s .pre .1 .3))
 
 returns-3 : tie.Need-returns-3
 returns-3 c =
     let s = c .before .before .before .before in
-    let high : 2 ≤ s .args .column = omega arith in
+    let high : operandsColumn ≤ s .args .column = omega arith in
     rw (line-column (s .args .modfile .now) (s .args .processor) (s .args .slot) (s .args .column) high (s .pre .1 .3)) (c .field-at3 .ensures)
 
 pub line-byte-spec : {M : Type 1} → statement M

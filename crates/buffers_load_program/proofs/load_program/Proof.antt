@@ -1,7 +1,7 @@
 -- The first a bytes are those of the program.
-use Prim.Native.Nat.{_-_, _/_, _%_}
+use Prim.Native.Nat.{_-_}
 use borrow.Author.Needs.{needs}
-use Rattle.buffers_tables.specs.Program.{programLength}
+use Rattle.buffers_tables.specs.Program.{programLength, lineProcessor, lineSlot, lineColumn}
 use Rattle.buffers_load_files.specs.Loaded.{programByte, programFrom}
 use Rattle.logic.proofs.Filling.{Filled, fill-starts, fill-more, fill-ends}
 use native.Mathlib.Omega.{arith}
@@ -9,7 +9,7 @@ use Rattle.buffers_load_program.proofs.load_program.Statement.{statemen
 use Rattle.buffers_load_program.proofs.load_program.Tie as tie
 
 abbrev Inv-loop : tie.InvT-loop
-Inv-loop modfile program₀ processors slots a₀ program a = Filled (λ a. programByte modfile (a / 13 % 16) (a / 13 / 16) (a % 13)) programLength a program
+Inv-loop modfile program₀ processors slots a₀ program a = Filled (λ a. programByte modfile (lineProcessor a) (lineSlot a) (lineColumn a)) programLength a program
 
 abbrev μ-loop : tie.MeasureT-loop
 μ-loop modfile program₀ processors slots a₀ program a = programLength - a

@@ -1,8 +1,8 @@
 -- `program_byte`: the module has the line, or the byte is 0.
 use mathlib.Core.Path.{sym}
-use Prim.Native.Nat.{_/_, _%_}
 use Rattle.model.specs.ModuleFile.{modProcessors, modSlots}
 use Rattle.buffers_memory.proofs.Within.{no-processor, no-location}
+use Rattle.buffers_tables.specs.Program.{lineProcessor, lineSlot, lineColumn}
 use Rattle.buffers_load_program.proofs.Program.{byte-within, byte-without}
 use native.Mathlib.Omega.{arith}
 use borrow.Author.Needs.{needs}
@@ -13,21 +13,21 @@ returns : tie.Need-returns
 returns c =
     let s = c .before .before in
     let l = s .args .modfile .now in
-    sym (byte-without l _ _ _ (no-processor (modProcessors l) (modSlots l) (s .args .a / 13 % 16) (s .args .a / 13 / 16) (omega (arith, s .pre .1 .0))))
+    sym (byte-without l _ _ _ (no-processor (modProcessors l) (modSlots l) (lineProcessor (s .args .a)) (lineSlot (s .args .a)) (omega (arith, s .pre .1 .0))))
 
 returns-2 : tie.Need-returns-2
 returns-2 c =
     let s = c .before .before .before in
     let l = s .args .modfile .now in
-    sym (byte-without l _ _ _ (no-location (modProcessors l) (modSlots l) (s .args .a / 13 % 16) (s .args .a / 13 / 16) (omega (arith, s .pre .1 .1))))
+    sym (byte-without l _ _ _ (no-location (modProcessors l) (modSlots l) (lineProcessor (s .args .a)) (lineSlot (s .args .a)) (omega (arith, s .pre .1 .1))))
 
 returns-3 : tie.Need-returns-3
 returns-3 c =
     let s = c .before .before .before .before in
     let l = s .args .modfile .now in
-    let p = s .args .a / 13 % 16 in
-    let i = s .args .a / 13 / 16 in
-    rw (byte-within l p i (s .args .a % 13) (omega (arith, s .pre .1 .0)) (omega (arith, s .pre .1 .1))) (c .line-byte .ensures)
+    let p = lineProcessor (s .args .a) in
+    let i = lineSlot (s .args .a) in
+    rw (byte-within l p i (lineColumn (s .args .a)) (omega (arith, s .pre .1 .0)) (omega (arith, s .pre .1 .1))) (c .line-byte .ensures)
 
 pub program-byte-spec : {M : Type 1} → statement M
 program-byte-spec = tie.close (tie.spec returns returns-2 (λ c κs. search needs) returns-3)

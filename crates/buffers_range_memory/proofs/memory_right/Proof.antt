@@ -8,11 +8,12 @@ use Rattle.buffers_range_memory.proofs.memory_right.Tie as tie
 returns : tie.Need-returns
 returns c =
     let s = c .before .before .before .before .before in
-    let word-at = c .before .word-at in
+    let processors = c .before .before .processors in
+    let slots = c .before .slots in
     let parts-right = c .parts-right in
-    parts-right .ensures ∙ rw (word-at .ensures) (memory-order _ _ (s .pre .1))
+    parts-right .ensures ∙ rw (processors .ensures .0, slots .ensures) (memory-order _ _ (s .pre .1))
 
 pub memory-right-spec : {M : Type 1} → statement M
 memory-right-spec =
     tie.close
-    (tie.spec (λ c. search needs) (λ c κs. search needs) (λ c κs. search needs) returns)
+    (tie.spec (λ c κs. search needs) (λ c. search needs) (λ c κs. search needs) (λ c κs. search needs) returns)

@@ -5,6 +5,7 @@ use mathlib.Core.Bool.{true}
 use Rattle.logic.specs.Test.{all}
 use Rattle.logic.proofs.Tests.{all-ends}
 use Rattle.logic.proofs.Loops.{loop-goes-on, loop-fails}
+use Rattle.buffers_memory.specs.Memory.{partStride, memoryParts}
 use Rattle.buffers_range_memory.specs.Order.{valuesIn, partAt, partsAt}
 use borrow.Author.Needs.{needs}
 use native.Mathlib.Omega.{arith}
@@ -12,10 +13,10 @@ use Rattle.buffers_range_memory.proofs.parts_right.Statement.{statement
 use Rattle.buffers_range_memory.proofs.parts_right.Tie as tie
 
 abbrev Inv-loop : tie.InvT-loop
-Inv-loop memory processors slots j₀ j = (j ≤ 80) × (all j (λ i. partAt memory (256 * i) (valuesIn processors slots i)) ≡ true)
+Inv-loop memory processors slots j₀ j = (j ≤ memoryParts) × (all j (λ i. partAt memory (partStride * i) (valuesIn processors slots i)) ≡ true)
 
 abbrev μ-loop : tie.MeasureT-loop
-μ-loop memory processors slots j₀ j = 80 - j
+μ-loop memory processors slots j₀ j = memoryParts - j
 
 loop-holds : tie.Need-loop-holds Inv-loop μ-loop
 unfolding all
@@ -28,7 +29,7 @@ returns c =
     let values-in = c .before .before .values-in in
     let part-right = c .before .part-right in
     let if1 = c .if1 in
-    sym (loop-fails _ _ (part-right .ensures ∙ ap (partAt _ _) (values-in .ensures .0)) 80 (loop-test .taken) (if1 .taken))
+    sym (loop-fails _ _ (part-right .ensures ∙ ap (partAt _ _) (values-in .ensures .0)) memoryParts (loop-test .taken) (if1 .taken))
 
 loop-again : tie.Need-loop-again Inv-loop μ-loop
 loop-again c =
@@ -43,7 +44,7 @@ unfolding partsAt
 returns-2 c =
     let loop = c .before .loop in
     let loop-test = c .loop-test in
-    sym (all-ends _ 80 _ (loop .inv .0) (loop-test .left) (loop .inv .1))
+    sym (all-ends _ memoryParts _ (loop .inv .0) (loop-test .left) (loop .inv .1))
 
 pub parts-right-spec : {M : Type 1} → statement M
 parts-right-spec =

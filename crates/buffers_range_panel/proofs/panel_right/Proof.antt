@@ -31,18 +31,18 @@ unfolding all
 loop-holds c =
     let head-right = c .before .before .head-right in
     let if1 = c .before .if1 in
-    let word-at = c .word-at in
-    let h = head-numbers _ (passes _ _ (head-right .ensures) (if1 .left)) in (omega (arith, h .signals-high, word-at .ensures), search needs, search needs)
+    let signals = c .signals in
+    let h = head-numbers _ (passes _ _ (head-right .ensures) (if1 .left)) in (omega (arith, h .signals-high, signals .ensures), search needs, search needs)
 
 returns-2 : tie.Need-returns-2 Inv-loop μ-loop
 returns-2 c =
     let head-right = c .before .before .before .before .before .before .head-right in
     let if1 = c .before .before .before .before .before .if1 in
-    let word-at = c .before .before .before .before .word-at in
+    let signals = c .before .before .before .before .signals in
     let loop-test = c .before .before .loop-test in
     let signal-right = c .before .signal-right in
     let if2 = c .if2 in
-    sym (signals-stop _ _ _ (word-at .ensures) (passes _ _ (head-right .ensures) (if1 .left)) (loop-test .taken) (fails _ _ (signal-right .ensures) (if2 .taken)))
+    sym (signals-stop _ _ _ (signals .ensures) (passes _ _ (head-right .ensures) (if1 .left)) (loop-test .taken) (fails _ _ (signal-right .ensures) (if2 .taken)))
 
 loop-again : tie.Need-loop-again Inv-loop μ-loop
 loop-again c =
@@ -55,11 +55,11 @@ returns-3 : tie.Need-returns-3 Inv-loop μ-loop
 returns-3 c =
     let head-right = c .before .before .before .before .before .head-right in
     let if1 = c .before .before .before .before .if1 in
-    let word-at = c .before .before .before .word-at in
+    let signals = c .before .before .before .signals in
     let loop = c .before .before .loop in
     let loop-test = c .before .loop-test in
     let all-zero = c .all-zero in
-    all-zero .ensures ∙ signals-end _ _ _ (word-at .ensures) (passes _ _ (head-right .ensures) (if1 .left)) (loop .inv .2) (loop .inv .1) (loop-test .left)
+    all-zero .ensures ∙ signals-end _ _ _ (signals .ensures) (passes _ _ (head-right .ensures) (if1 .left)) (loop .inv .2) (loop .inv .1) (loop-test .left)
 
 pub panel-right-spec : {M : Type 1} → statement M
 panel-right-spec =

@@ -34,7 +34,7 @@ signal-of c = c .before .before .before .before .before .args .signal
 
 after-kind : (c : tie.Else1) → signalRanged (panel-of c) (signal-of c) ≡ from-codes (panel-of c) (signal-of c)
 unfolding signalRanged
-after-kind c = chain-goes-on _ _ _ (counted-of (c .before .counted .ensures) (c .before .before .widened .ensures .0) refl) (c .if1 .left)
+after-kind c = chain-goes-on _ _ _ (counted-of (c .before .counted .ensures) (c .before .before .widened .ensures .0 ∙ c .before .before .before .kind .ensures) refl) (c .if1 .left)
 
 after-codes : (c : tie.Else2)
     → let k = c .before .before in
@@ -44,47 +44,52 @@ after-codes c = after-kind (c .before .before) ∙ chain-goes-on _ _ _ (c .befor
 after-hand : (c : tie.Else3)
     → let k = c .before .before .before .before in
     signalRanged (panel-of k) (signal-of k) ≡ from-place (panel-of k) (signal-of k)
-after-hand c = after-codes (c .before .before) ∙ yes _ _ (le-leb _ _ (c .if3 .left))
+after-hand c = after-codes (c .before .before) ∙ yes _ _ (rw (← (c .before .hand .ensures)) (le-leb _ _ (c .if3 .left)))
 
 returns : tie.Need-returns
 unfolding signalRanged
-returns c = sym (chain-stops _ _ _ (counted-of (c .before .counted .ensures) (c .before .before .widened .ensures .0) refl) (c .if1 .taken))
+returns c =
+    sym
+    (chain-stops _ _ _ (counted-of (c .before .counted .ensures) (c .before .before .widened .ensures .0 ∙ c .before .before .before .kind .ensures) refl)
+    (c .if1 .taken))
 
 returns-2 : tie.Need-returns-2
 returns-2 c = sym (after-kind (c .before .before) ∙ chain-stops _ _ _ (c .before .codes-right .ensures) (c .if2 .taken))
 
 returns-3 : tie.Need-returns-3
-returns-3 c = sym (after-codes (c .before .before) ∙ no _ _ (lt-leb _ _ (c .if3 .taken)))
+returns-3 c = sym (after-codes (c .before .before) ∙ no _ _ (rw (← (c .before .hand .ensures)) (lt-leb _ _ (c .if3 .taken))))
+
+-- whether the place is one of the module's, by the numbers read
+processor-test : (c : tie.After-place-processor)
+    → let k = c .before .before .before .before .before .before in
+    ltb (c .place-processor .result) (c .before .processors .result) ≡ ltb (processorIn (panel-of k) (signal-of k)) (processorsIn (panel-of k))
+processor-test c = ap₂ ltb (c .place-processor .ensures .0) (c .before .processors .ensures .0)
 
 returns-4 : tie.Need-returns-4
-returns-4 c = sym (after-hand (c .before .before .before) ∙ no _ _ (le-ltb _ _ (c .if4 .taken)))
+returns-4 c = sym (after-hand (c .before .before .before) ∙ no _ _ (sym (processor-test (c .before)) ∙ le-ltb _ _ (c .if4 .taken)))
 
 returns-5 : tie.Need-returns-5
 returns-5 c =
     let place = c .before .before .before in
-    ap₂ ltb (c .before .widened2 .ensures .0) (c .word-at .ensures)
-    ∙ sym (after-hand (place .before .before .before) ∙ yes _ _ (lt-ltb _ _ (place .if4 .left)))
+    ap₂ ltb (c .before .widened2 .ensures .0 ∙ c .before .before .place-slot .ensures) (c .slots .ensures)
+    ∙ sym (after-hand (place .before .before .before) ∙ yes _ _ (sym (processor-test (place .before)) ∙ lt-ltb _ _ (place .if4 .left)))
 
 pub signal-right-spec : {M : Type 1} → statement M
 signal-right-spec =
     tie.close
     (tie.spec
-    (λ c. search needs)
-    (λ c. search needs)
+    (λ c κs. search needs)
     (λ c κs. search needs)
     (λ c κs. search needs)
     returns
     (λ c κs. search needs)
     returns-2
-    (λ c. search needs)
-    (λ c. search needs)
+    (λ c κs. search needs)
     returns-3
-    (λ c. search needs)
-    (λ c. search needs)
-    (λ c. search needs)
+    (λ c κs. search needs)
+    (λ c κs. search needs)
     returns-4
-    (λ c. search needs)
-    (λ c. search needs)
+    (λ c κs. search needs)
     (λ c κs. search needs)
     (λ c κs. search needs)
     returns-5)

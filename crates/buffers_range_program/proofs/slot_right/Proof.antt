@@ -4,6 +4,7 @@ use mathlib.Core.Path.{_≡_, sym, _∙_}
 use mathlib.Core.Bool.{true}
 use Rattle.logic.specs.Test.{all}
 use Rattle.logic.proofs.Loops.{loop-stops, loop-goes-on, loop-ends}
+use Rattle.buffers_tables.specs.Program.{lineStride}
 use Rattle.buffers_range_program.specs.Order.{lineAt, slotAt}
 use borrow.Author.Needs.{needs}
 use native.Mathlib.Omega.{arith}
@@ -11,7 +12,7 @@ use Rattle.buffers_range_program.proofs.slot_right.Statement.{statement
 use Rattle.buffers_range_program.proofs.slot_right.Tie as tie
 
 abbrev Inv-loop : tie.InvT-loop
-Inv-loop program slot signals processors slots at lines p₀ p = (p ≤ lines) × (all p (λ q. lineAt program (at + 13 * q) signals processors slots) ≡ true)
+Inv-loop program slot signals processors slots at lines p₀ p = (p ≤ lines) × (all p (λ q. lineAt program (at + lineStride * q) signals processors slots) ≡ true)
 
 abbrev μ-loop : tie.MeasureT-loop
 μ-loop program slot signals processors slots at lines p₀ p = lines - p
