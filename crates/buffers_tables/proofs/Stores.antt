@@ -1,28 +1,28 @@
 -- A number of the panel is read where it was written, and all others stay: every other byte does (`finished-else`, `watch-else`,
 -- `hand-else`), and so do the numbers that no call writes (`SameFixed`). What stands there already, written again, changes no byte.
 use Prim.Native.Nat.{ℕ, _+_, _<_, _≤_}
-use mathlib.Core.Path.{_≡_, sym, _∙_, ap}
+use mathlib.Core.Path.{_≡_, sym, subst, _∙_, ap}
 use mathlib.Core.List.{List}
 use native.Mathlib.Omega.{arith}
 use lib.ListN.{length, getD, set, length-set}
 use lib.Seq.{getD-set-same, getD-set-other, set-getD}
 use Rattle.words.specs.Stored.{wordStored}
 use Rattle.words.proofs.Words.{stored-length, stored-else, word-stored, word-own}
-use Rattle.buffers_tables.specs.Panel.{panelLength, panelStride, signalsPlace, processorsPlace, slotsPlace, finishedPlace, watchedPlace, maskPlace, kindColumn, codesColumn, handColumn, processorColumn, slotColumn, signalByte, columnOf, finishedIn, watchedIn, maskIn, kindIn, codesIn, handIn, processorIn, slotIn}
+use Rattle.buffers_tables.specs.Panel.{panelLength, panelStride, signalsPlace, processorsPlace, slotsPlace, finishedPlace, watchedPlace, maskPlace, kindColumn, codesColumn, handColumn, processorColumn, slotColumn, signalByte, signalOf, columnOf, finishedIn, watchedIn, maskIn, kindIn, codesIn, handIn, processorIn, slotIn}
 use Rattle.buffers_tables.specs.Stores.{withFinished, withWatch, withHand}
 use Rattle.buffers_tables.specs.Tables.{moduleIn}
 use Rattle.buffers_tables.specs.Holding.{SameFixed}
-use Rattle.buffers_tables.proofs.Places.{at-column, kind-column}
+use Rattle.buffers_tables.proofs.Places.{byte-is, column-low, signal-high, byte-low, at-column, kind-column}
 
 -- panels with the same bytes before the cycles finished, and in every column of the signals but that of the values in hand
 pub fixed-bytes : (a b : List ℕ) → ((x : ℕ) → x < finishedPlace → getD a x 0 ≡ getD b x 0)
-    → ((x : ℕ) → panelStride ≤ x → (columnOf x ≡ handColumn → ⊥) → getD a x 0 ≡ getD b x 0) → SameFixed a b
+    → ((x : ℕ) → panelStride ≤ x → x < panelLength → (columnOf x ≡ handColumn → ⊥) → getD a x 0 ≡ getD b x 0) → SameFixed a b
 fixed-bytes a b head rest =
     record {
       signals = rw (head signalsPlace (omega arith), head (signalsPlace + 1) (omega arith));
       processors = head processorsPlace (omega arith);
       slots = rw (head slotsPlace (omega arith), head (slotsPlace + 1) (omega arith));
-      columns = λ s column low l d. rest (signalByte s column) (omega arith) (λ q. d (sym (at-column s column l) ∙ q));
+      columns = λ s column low high l d. rest (signalByte s column) (omega arith) (byte-low s column l high) (λ q. d (sym (at-column s column l) ∙ q));
     }
 
 pub fixed-trans : (a b c : List ℕ) → SameFixed a b → SameFixed b c → SameFixed a c
@@ -31,31 +31,35 @@ fixed-trans a b c h k =
       signals = h .signals ∙ k .signals;
       processors = h .processors ∙ k .processors;
       slots = h .slots ∙ k .slots;
-      columns = λ s column low l d. h .columns s column low l d ∙ k .columns s column low l d;
+      columns = λ s column low high l d. h .columns s column low high l d ∙ k .columns s column low high l d;
     }
 
 -- what such panels have in common
 module _ (a b : List ℕ) (same : SameFixed a b) where
-  module _ (s : ℕ) (low : 1 ≤ s) where
+  module _ (s : ℕ) (low : 1 ≤ s) (high : s ≤ 4096) where
     pub fixed-kind : kindIn a s ≡ kindIn b s
-    fixed-kind = kind-column a s ∙ same .columns s kindColumn low (omega arith) (λ q. omega arith) ∙ sym (kind-column b s)
+    fixed-kind = kind-column a s ∙ same .columns s kindColumn low high (omega arith) (λ q. omega arith) ∙ sym (kind-column b s)
 
     pub fixed-codes : codesIn a s ≡ codesIn b s
     fixed-codes =
         rw (
-          same .columns s codesColumn low (omega arith) (λ q. omega arith),
-          same .columns s (codesColumn + 1) low (omega arith) (λ q. omega arith),
-          same .columns s (codesColumn + 2) low (omega arith) (λ q. omega arith),
-          same .columns s (codesColumn + 3) low (omega arith) (λ q. omega arith),
-          same .columns s (codesColumn + 4) low (omega arith) (λ q. omega arith),
-          same .columns s (codesColumn + 5) low (omega arith) (λ q. omega arith),
+          same .columns s codesColumn low high (omega arith) (λ q. omega arith),
+          same .columns s (codesColumn + 1) low high (omega arith) (λ q. omega arith),
+          same .columns s (codesColumn + 2) low high (omega arith) (λ q. omega arith),
+          same .columns s (codesColumn + 3) low high (omega arith) (λ q. omega arith),
+          same .columns s (codesColumn + 4) low high (omega arith) (λ q. omega arith),
+          same .columns s (codesColumn + 5) low high (omega arith) (λ q. omega arith),
         )
 
     pub fixed-processor : processorIn a s ≡ processorIn b s
-    fixed-processor = same .columns s processorColumn low (omega arith) (λ q. omega arith)
+    fixed-processor = same .columns s processorColumn low high (omega arith) (λ q. omega arith)
 
     pub fixed-slot : slotIn a s ≡ slotIn b s
-    fixed-slot = same .columns s slotColumn low (omega arith) (λ q. omega arith)
+    fixed-slot = same .columns s slotColumn low high (omega arith) (λ q. omega arith)
+
+  pub fixed-byte : (x : ℕ) → panelStride ≤ x → x < panelLength → (columnOf x ≡ handColumn → ⊥) → getD a x 0 ≡ getD b x 0
+  fixed-byte x low high d =
+      subst (λ (y : ℕ). getD a y 0 ≡ getD b y 0) (byte-is x) (same .columns (signalOf x) (columnOf x) (omega arith) (signal-high x high) (column-low x) d)
 
   pub fixed-module : (program : List ℕ) → moduleIn a program ≡ moduleIn b program
   unfolding moduleIn
@@ -86,7 +90,7 @@ module _ (number : ℕ) (panel : List ℕ) where
   finished-fixed =
       fixed-bytes (withFinished number panel) panel
       (λ x l. finished-else x (λ q. omega arith) (λ q. omega arith))
-      (λ x l d. finished-else x (λ q. omega arith) (λ q. omega arith))
+      (λ x l h d. finished-else x (λ q. omega arith) (λ q. omega arith))
 
 -- the watch
 module _ (signal mask : ℕ) (panel : List ℕ) where
@@ -125,7 +129,7 @@ module _ (signal mask : ℕ) (panel : List ℕ) where
   watch-fixed =
       fixed-bytes (withWatch signal mask panel) panel
       (λ x l. watch-else x (λ q. omega arith) (λ q. omega arith) (λ q. omega arith))
-      (λ x l d. watch-else x (λ q. omega arith) (λ q. omega arith) (λ q. omega arith))
+      (λ x l h d. watch-else x (λ q. omega arith) (λ q. omega arith) (λ q. omega arith))
 
 -- the value in hand of a signal
 module _ (s value : ℕ) (panel : List ℕ) where
@@ -155,7 +159,7 @@ module _ (s value : ℕ) (panel : List ℕ) where
   hand-fixed low =
       fixed-bytes (withHand s value panel) panel
       (λ x l. hand-else x (λ q. omega arith))
-      (λ x l d. hand-else x (λ q. d (omega arith)))
+      (λ x l h d. hand-else x (λ q. d (omega arith)))
 
 -- what stands there already
 module _ (panel : List ℕ) where

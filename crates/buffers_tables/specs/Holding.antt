@@ -39,4 +39,4 @@ pub record SameFixed (a b : List ℕ) : Type 0 where
   pub signals : signalsIn a ≡ signalsIn b
   pub processors : processorsIn a ≡ processorsIn b
   pub slots : slotsIn a ≡ slotsIn b
-  pub columns : (s column : ℕ) → 1 ≤ s → column < panelStride → (column ≡ handColumn → ⊥) → columnIn a s column ≡ columnIn b s column
+  pub columns : (s column : ℕ) → 1 ≤ s → s ≤ 4096 → column < panelStride → (column ≡ handColumn → ⊥) → columnIn a s column ≡ columnIn b s column

@@ -1,9 +1,10 @@
--- A panel and a program in range stay so in a panel with the same tables whose head is in range.
-use Prim.Native.Nat.{ℕ, _+_, _*_, _/_, _%_, _<_, _≤_}
+-- A panel and a program in range stay so with a panel of the same fixed numbers whose head is in range.
+use Prim.Native.Nat.{ℕ, _+_, _<_, _≤_}
 use mathlib.Core.Path.{_≡_, refl, sym, subst, _∙_}
 use mathlib.Core.Bool.{Bool, true, false}
 use mathlib.Core.List.{List}
 use native.Mathlib.Omega.{arith}
+use native.Mathlib.Decide.{ℕ-discrete}
 use lib.Dec.{eqb}
 use lib.ListN.{getD}
 use borrow.Author.Tests.{eqb-true, eqb-false, ne-eqb}
@@ -13,8 +14,10 @@ use Rattle.gates.specs.Function.{isFunction}
 use Rattle.model.specs.Network.{input}
 use Rattle.model.specs.Module.{Module, At}
 use Rattle.model.specs.Session.{Head, replaced}
-use Rattle.buffers_tables.specs.Panel.{panelLength, signalsIn, kindIn, handIn}
+use Rattle.buffers_tables.specs.Panel.{panelLength, codesColumn, handColumn, signalStart, signalByte, signalOf, columnOf, signalsIn, kindIn, handIn}
 use Rattle.buffers_tables.specs.Tables.{networkIn, moduleIn}
+use Rattle.buffers_tables.specs.Holding.{SameFixed}
+use Rattle.buffers_tables.proofs.Stores.{fixed-kind, fixed-processor, fixed-slot, fixed-byte, fixed-module}
 use Rattle.session_state.specs.Header.{headIn, withHead}
 use Rattle.session_state.specs.Commands.{withValue}
 use Rattle.buffers_range_panel.specs.Ranges.{codesRanged}
@@ -23,8 +26,8 @@ use Rattle.buffers_range.proofs.Laid.{Line}
 use Rattle.buffers_range.specs.Ranges.{ranged}
 use Rattle.buffers_range.proofs.Ranged.{Program, Values, is-ranged, panel-in-range, program-in-range}
 use Rattle.laws_kept.specs.InRange.{InRange}
-use Rattle.laws_kept.proofs.Tables.{SameTables, same-signals, same-processors, same-slots, same-column, same-kind, same-processor, same-slot, same-module, same-size}
-use Rattle.laws_kept.proofs.Heads.{with-head-hand, with-head-watched, with-head-mask, with-head-tables}
+use Rattle.laws_kept.proofs.Tables.{same-size}
+use Rattle.laws_kept.proofs.Heads.{with-head-hand, with-head-watched, with-head-mask, with-head-fixed}
 
 -- the head of a panel in range
 pub head-in-range : (panel : List ℕ) → Panel panel → InRange panel (headIn panel)
@@ -34,7 +37,7 @@ head-in-range panel r =
       watched-high = r .head .watched-high;
       mask-high = r .head .mask-high;
       hands = λ s low high. r .signals s low high .hand-high;
-      rest = λ s low high. r .rest (10 * s + 7) (omega arith) (omega arith);
+      rest = λ s low high. r .rest (signalByte s handColumn) (omega arith) (omega arith);
     }
 
 -- a value in hand replaced
@@ -60,7 +63,7 @@ with-value-in-range panel h good s v high l =
       rest = λ x a c. replaced-else (h .hand) s v x (λ q. omega arith) ∙ good .rest x a c;
     }
 
-module _ {old new : List ℕ} (same : SameTables old new) where
+module _ (new old : List ℕ) (same : SameFixed new old) where
   module _ (s : ℕ) (low : 1 ≤ s) (high : s ≤ 4096) where
     codes-ranged : codesRanged old s ≡ true → codesRanged new s ≡ true
     codes-ranged r = go (eqb (kindIn old s) input) refl
@@ -68,27 +71,25 @@ module _ {old new : List ℕ} (same : SameTables old new) where
         go : (b : Bool) → eqb (kindIn old s) input ≡ b → codesRanged new s ≡ true
         go true e =
             let i = eqb-true (kindIn old s) input e in
-            zeros-input new s (same-kind same s low high ∙ i) (λ x l u.
-            same .signals x (omega arith) (omega arith) (λ q. omega arith) ∙ input-zeros old s r i x l u)
+            zeros-input new s (fixed-kind new old same s low high ∙ i) (λ x l u.
+            fixed-byte new old same x (omega arith) (omega arith) (λ q. omega arith) ∙ input-zeros old s r i x l u)
         go false e =
             let d = eqb-false (kindIn old s) input e in
-            supplied-gate new s (λ q. d (sym (same-kind same s low high) ∙ q))
-            (subst (λ (x : ℕ). isFunction x ≡ true) (sym (same-column same s low high 1 (omega arith) (λ q. omega arith))) (codes-function old s r))
+            supplied-gate new s (λ q. d (sym (fixed-kind new old same s low high) ∙ q))
+            (subst (λ (x : ℕ). isFunction x ≡ true) (sym (same .columns s codesColumn low high (omega arith) (λ q. omega arith))) (codes-function old s r))
             (λ k l.
-            let q : 10 * s + (2 + k) ≡ 10 * s + 2 + k = omega arith in
-            let kept : getD new (10 * s + 2 + k) 0 ≡ getD old (10 * s + 2 + k) 0 =
-            subst (λ (x : ℕ). getD new x 0 ≡ getD old x 0) q (same-column same s low high (2 + k) (omega arith) (λ q. omega arith)) in
-            subst (λ (x : ℕ). isTranslation x ≡ true) (sym kept) (codes-translation old s r k l))
+            subst (λ (x : ℕ). isTranslation x ≡ true)
+            (sym (fixed-byte new old same (signalByte s (codesColumn + 1) + k) (omega arith) (omega arith) (λ q. omega arith))) (codes-translation old s r k l))
 
     numbers-ranged : handIn new s ≤ 3 → Numbers old s → Numbers new s
     numbers-ranged hand r =
         record {
-          kind-low = rw (same-kind same s low high) (r .kind-low);
-          kind-high = rw (same-kind same s low high) (r .kind-high);
+          kind-low = rw (fixed-kind new old same s low high) (r .kind-low);
+          kind-high = rw (fixed-kind new old same s low high) (r .kind-high);
           codes = codes-ranged (r .codes);
           hand-high = hand;
-          processor-low = rw (same-processor same s low high, same-processors same) (r .processor-low);
-          slot-low = rw (same-slot same s low high, same-slots same) (r .slot-low);
+          processor-low = rw (fixed-processor new old same s low high, same .processors) (r .processor-low);
+          slot-low = rw (fixed-slot new old same s low high, same .slots) (r .slot-low);
         }
 
   same-panel : InRange old (headIn new) → Panel old → Panel new
@@ -97,55 +98,52 @@ module _ {old new : List ℕ} (same : SameTables old new) where
       record {
         head =
             record {
-              signals-low = rw (same-signals same) (r .head .signals-low);
-              signals-high = rw (same-signals same) (r .head .signals-high);
-              processors-low = rw (same-processors same) (r .head .processors-low);
-              processors-high = rw (same-processors same) (r .head .processors-high);
-              slots-low = rw (same-slots same) (r .head .slots-low);
-              slots-high = rw (same-slots same) (r .head .slots-high);
+              signals-low = rw (same .signals) (r .head .signals-low);
+              signals-high = rw (same .signals) (r .head .signals-high);
+              processors-low = rw (same .processors) (r .head .processors-low);
+              processors-high = rw (same .processors) (r .head .processors-high);
+              slots-low = rw (same .slots) (r .head .slots-low);
+              slots-high = rw (same .slots) (r .head .slots-high);
               watched-low = good .watched-low;
-              watched-high = rw (same-signals same) (good .watched-high);
+              watched-high = rw (same .signals) (good .watched-high);
               mask-high = good .mask-high;
             };
         signals = λ s low high.
-            let l : s ≤ signalsIn old = rw (same-signals same) at high in
+            let l : s ≤ signalsIn old = rw (same .signals) at high in
             numbers-ranged s low (omega arith) (good .hands s low l) (r .signals s low l);
         rest = λ x low high.
-            let l : 10 * (signalsIn old + 1) ≤ x = rw (same-signals same) at low in
-            go x l high (eqb (x % 10) 7) refl;
+            let l : signalStart (signalsIn old + 1) ≤ x = rw (same .signals) at low in
+            go x l high (ℕ-discrete (columnOf x) handColumn);
       }
     where
-      go : (x : ℕ) → 10 * (signalsIn old + 1) ≤ x → x < panelLength → (b : Bool) → eqb (x % 10) 7 ≡ b → getD new x 0 ≡ 0
-      go x low high true e =
-          let c = eqb-true (x % 10) 7 e in
-          let q : 10 * (x / 10) + 7 ≡ x = omega arith in
-          subst (λ (y : ℕ). getD new y 0 ≡ 0) q (good .rest (x / 10) (omega arith) (omega arith))
-      go x low high false e =
-          let d = eqb-false (x % 10) 7 e in
-          same .signals x (omega arith) high d ∙ r .rest x low high
+      go : (x : ℕ) → signalStart (signalsIn old + 1) ≤ x → x < panelLength → Dec (columnOf x ≡ handColumn) → getD new x 0 ≡ 0
+      go x low high (yes e) =
+          let q : signalByte (signalOf x) handColumn ≡ x = omega arith in
+          subst (λ (y : ℕ). getD new y 0 ≡ 0) q (good .rest (signalOf x) (omega arith) (omega arith))
+      go x low high (no d) = fixed-byte new old same x (omega arith) high d ∙ r .rest x low high
 
   same-program : (program : List ℕ) → Program old program → Program new program
   same-program program r =
       record {
         lines =
             subst (λ (m : Module). (p i : ℕ) → At m p i → Line (networkIn new program) m p i)
-            (sym (same-module same program)) line;
-        rest = λ p i b pl il bl e. r .rest p i b pl il bl (rw (same-processors same, same-slots same) at e);
+            (sym (fixed-module new old same program)) line;
+        rest = λ p i b pl il bl e. r .rest p i b pl il bl (rw (same .processors, same .slots) at e);
       }
     where
       line : (p i : ℕ) → At (moduleIn old program) p i → Line (networkIn new program) (moduleIn old program) p i
       line p i a =
           let l = r .lines p i a in
           record {
-            signal = subst (λ (x : ℕ). moduleIn old program .signal p i ≤ x) (sym (same-size same program)) (l .signal);
+            signal = subst (λ (x : ℕ). moduleIn old program .signal p i ≤ x) (sym (same-size new old program same)) (l .signal);
             operand = l .operand;
             send = l .send;
             sender = l .sender;
           }
 
   -- the memory is judged by P and C alone
-  pub same-values : (memory : List ℕ) → Values old memory → Values new memory
-  same-values memory v = record { values = v .values; rest = λ a e. v .rest a (rw (same-processors same, same-slots same) at e) }
+  same-values : (memory : List ℕ) → Values old memory → Values new memory
+  same-values memory v = record { values = v .values; rest = λ a e. v .rest a (rw (same .processors, same .slots) at e) }
 
   pub same-ranged : InRange old (headIn new) → (program memory left : List ℕ) → ranged old program memory ≡ true → Values old left
       → ranged new program left ≡ true
@@ -167,5 +165,5 @@ with-head-in-range h panel few good =
 pub with-head-ranged : (h : Head) (panel program memory left : List ℕ) → InRange panel h → ranged panel program memory ≡ true → Values panel left
     → ranged (withHead h panel) program left ≡ true
 with-head-ranged h panel program memory left good r v =
-    same-ranged (with-head-tables h panel)
+    same-ranged (withHead h panel) panel (with-head-fixed h panel)
     (with-head-in-range h panel (panel-in-range panel program memory r .head .signals-high) good) program memory left r v

@@ -13,7 +13,7 @@ use Rattle.buffers_range.specs.Ranges.{ranged}
 use Rattle.buffers_range.proofs.Ranged.{memory-in-range, head-ranged}
 use Rattle.session_calls.specs.Reply.{Buffers, lengthsOf, leaving, reply, Reply}
 use Rattle.laws_kept.proofs.Tables.{same-holding}
-use Rattle.laws_kept.proofs.Heads.{with-head-length, with-head-tables}
+use Rattle.laws_kept.proofs.Heads.{with-head-length, with-head-fixed}
 use Rattle.buffers_lengths.specs.Lengths.{fixed}
 use Rattle.buffers_lengths.proofs.Sizes.{sizes-same, same-sizes}
 use Rattle.session_calls.proofs.Replies.{outcomeIn, reply-44, Leaves, done, stays, reply-leaves}
@@ -59,7 +59,7 @@ module _ (b : Buffers) (c : Call) (lent : sameLengths (lengthsOf b) fixed ≡ tr
     module _ {n : Network} {m : Module} (holding : Holding n m (b .panel) (b .program)) where
       left-holding : Holding n m (leaving b (outcomeIn b c) .panel) (b .program)
       left-holding =
-          same-holding (with-head-tables (outcomeIn b c .head) (b .panel)) (b .program)
+          same-holding _ (b .panel) (b .program) (with-head-fixed (outcomeIn b c .head) (b .panel))
           (head-ranged (b .panel) (b .program) (b .memory) r .signals-high) holding
 
       pub reply-holding : Holding n m (reply b c .buffers .panel) (reply b c .buffers .program)

@@ -91,7 +91,7 @@ module _ {files : Files} {k : ℕ} {l : Lister} {stim panel program memory shown
 
   steps-first : l .pieces ≡ 0 → Stepped lent stim program l panel memory shown
   steps-first e =
-      let text = changeLines (signalsIn panel) 0 (valueHeld panel memory) (λ x. getD shown x 0) in
+      let text = changeLines (signalsIn panel) (l .pieces) (valueHeld panel memory) (λ x. getD shown x 0) in
       record {
         piece = record { lister = record { session = l .session; cursor = l .cursor; end = l .end; pieces = 1 }; length = length text };
         out = sets lent 0 text;

@@ -38,11 +38,10 @@ use Rattle.buffers_load.proofs.Loaded.{loaded-tables, loaded-holding, loaded-ne
 use Rattle.laws_values.proofs.Same.{cycle-same, near-trans}
 use Rattle.laws_values.proofs.Valued.{processors-few, slots-few}
 use Rattle.buffers_range.proofs.Ranged.{panel-in-range}
-use Rattle.session_state.specs.Carried.{withHand}
-use Rattle.session_state.proofs.Hands.{own-hand, with-hand-hand, with-hand-over, with-hand-same}
+use Rattle.buffers_tables.specs.Stores.{withHands}
+use Rattle.buffers_tables.proofs.Hands.{hands-hand, hands-fixed, hands-own, hands-over, hands-same}
 use Rattle.laws_opening.proofs.Opened.{opened-ranged}
 use Rattle.laws_kept.proofs.Tables.{signal-high, same-holding}
-use Rattle.laws_kept.proofs.Heads.{with-hand-tables}
 use Rattle.laws_kept.proofs.Panels.{head-in-range}
 use Rattle.listing_cycle.specs.Changes.{shownLength, notShown, valueHeld, shownWith}
 use Rattle.listing.specs.Buffers.{cyclesAfter, handAt, panelAt, memoryAt, shownAt, shownAfter}
@@ -103,13 +102,13 @@ module _ (files : Files) where
 
   pub panel-hand : (t s : ℕ) → 1 ≤ s → s ≤ 4096 → handIn (panelAt files t) s ≡ handAt files t s
   unfolding panelAt
-  panel-hand t = with-hand-hand (handAt files t) (panelOf files)
+  panel-hand t = hands-hand (handAt files t) (panelOf files)
 
   -- the settings of one time more
-  pub panel-next : (t u : ℕ) (panel : List ℕ) → panel ≡ withHand (handIn panel) (panelAt files t)
+  pub panel-next : (t u : ℕ) (panel : List ℕ) → panel ≡ withHands (handIn panel) (panelAt files t)
       → ((s : ℕ) → 1 ≤ s → s ≤ 4096 → handIn panel s ≡ handAt files u s) → panel ≡ panelAt files u
   unfolding panelAt
-  panel-next t u panel only hands = only ∙ with-hand-over (handIn panel) _ _ ∙ with-hand-same (handIn panel) _ _ hands
+  panel-next t u panel only hands = only ∙ hands-over (handIn panel) _ _ ∙ hands-same (handIn panel) _ _ hands
 
   module _ (accepted : Accepted panelLimit files) where
     abbrev loaded : List ℕ
@@ -127,13 +126,13 @@ module _ (files : Files) where
 
     pub panel-holding : (t : ℕ) → Holding n m (panelAt files t) program
     unfolding panelAt
-    panel-holding t = same-holding (with-hand-tables (handAt files t) loaded) program few loaded-here
+    panel-holding t = same-holding _ loaded program (hands-fixed (handAt files t) loaded) few loaded-here
 
     -- at time 0 it is the one that was loaded
     pub panel-loaded : loaded ≡ panelAt files 0
     unfolding panelAt networkIn
     panel-loaded =
-        own-hand loaded (loaded-tables panel-few files accepted .panel-size) ∙ with-hand-same _ _ loaded (λ s low high. hand s low high (decLt (n .size) s))
+        sym (hands-own loaded (loaded-tables panel-few files accepted .panel-size)) ∙ hands-same _ _ loaded (λ s low high. hand s low high (decLt (n .size) s))
       where
         size-there : signalsIn loaded ≡ n .size
         size-there = loaded-here .signals .size

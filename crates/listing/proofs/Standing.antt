@@ -28,7 +28,7 @@ use Rattle.buffers_tables.specs.Holding.{Holding}
 use Rattle.buffers_range.proofs.Ranged.{head-ranged, panel-in-range, ranged-memory}
 use Rattle.machine_run.specs.Running.{watchOf, cycleIn}
 use Rattle.session_state.specs.declared.Session.{Session}
-use Rattle.session_state.specs.Carried.{withHand}
+use Rattle.buffers_tables.specs.Stores.{withHands}
 use Rattle.session_state.specs.Commands.{signalIn, inputIn}
 use Rattle.session_calls.proofs.Watched.{ranged-processor}
 use Rattle.laws_kept.proofs.Tables.{same-holding}
@@ -43,7 +43,7 @@ use Rattle.listing.specs.Pieces.{pieceAt}
 use Rattle.listing.specs.Buffers.{cyclesAfter, lineAt, handAt, panelAt, panelAfter, memoryAt, shownAt, shownAfter}
 use Rattle.listing.specs.Standing.{SessionAfter, Stands, Gives}
 use Rattle.listing.proofs.Lines.{lines-passed, passed-line}
-use Rattle.listing_cycle.proofs.Feeding.{no-input, fed-tables, fed-right}
+use Rattle.listing_cycle.proofs.Feeding.{no-input, fed-fixed, fed-right}
 use Rattle.listing_cycle.proofs.Cycling.{cycle-right}
 use Rattle.listing.proofs.Buffers.{cycles-at, cycles-last, shown-last, hand-input, hand-gate, hand-none, panel-next, panel-holding, panel-hand, panel-input, places-hold, memory-next, shown-next}
 use Rattle.listing.proofs.Pieces.{piece-is, piece-last, piece-short}
@@ -311,7 +311,7 @@ module _ {files : Files} {t : ℕ} {l : Lister} {stim panel program memory shown
   -- so the panel is that of one cycle more
   fed-is : fed ≡ panelAt files (suc t)
   fed-is =
-      panel-next files t (suc t) fed (feeding .only ∙ ap (withHand (handIn fed)) panel-here)
+      panel-next files t (suc t) fed (feeding .only ∙ ap (withHands (handIn fed)) panel-here)
       (λ x low high. hand x low high (decLt (n .size) x))
     where
       hand : (x : ℕ) → 1 ≤ x → x ≤ 4096 → Dec (n .size < x) → handIn fed x ≡ handAt files (suc t) x
@@ -327,7 +327,7 @@ module _ {files : Files} {t : ℕ} {l : Lister} {stim panel program memory shown
               kept x low high (λ a b q. e (sym (kind-here x g) ∙ q)) ∙ hand-gate files t x g e ∙ sym (hand-gate files (suc t) x g e)
 
   fed-holding : Holding n (moduleOfFiles files) fed program
-  fed-holding = same-holding (fed-tables feeding) program (right-signals (s .right)) (stands-holding s)
+  fed-holding = same-holding fed panel program (fed-fixed feeding) (right-signals (s .right)) (stands-holding s)
 
   -- and then the cycle
   module _ (memory′ : List ℕ) (left : memory′ ≡ withMemory (processorsIn fed) (slotsIn fed) (cycleIn fed program (memoryOf memory)) memory) where
@@ -370,8 +370,8 @@ module _ {files : Files} {k : ℕ} {l : Lister} {stim panel program memory shown
 
 pub gives-zeroth : {files : Files} (m : ℕ) {l : Lister} {stim panel program memory shown : List ℕ} → m ≡ 0
     → Stands files m l stim panel program memory shown → (lent out shown′ : List ℕ) (p : Piece)
-    → p .length ≡ length (changeLines (signalsIn panel) 0 (valueHeld panel memory) (λ x. getD shown x 0))
-    → out ≡ sets lent 0 (changeLines (signalsIn panel) 0 (valueHeld panel memory) (λ x. getD shown x 0))
+    → p .length ≡ length (changeLines (signalsIn panel) m (valueHeld panel memory) (λ x. getD shown x 0))
+    → out ≡ sets lent 0 (changeLines (signalsIn panel) m (valueHeld panel memory) (λ x. getD shown x 0))
     → shown′ ≡ shownWith (signalsIn panel) (valueHeld panel memory) (λ x. getD shown x 0)
     → p .lister ≡ record { session = l .session; cursor = l .cursor; end = l .end; pieces = 1 }
     → Gives files m lent p out stim panel program memory shown′

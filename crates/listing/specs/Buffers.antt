@@ -15,7 +15,7 @@ use Rattle.model.specs.Acceptance.{networkOf, moduleOfFiles, givenOf}
 use Rattle.model.specs.Listing.{valueAt}
 use Rattle.buffers_memory.specs.Memory.{memoryLength, withMemory}
 use Rattle.buffers_load_files.specs.Loaded.{panelOf}
-use Rattle.session_state.specs.Carried.{withHand}
+use Rattle.buffers_tables.specs.Stores.{withHands}
 use Rattle.listing_cycle.specs.Changes.{shownLength, notShown}
 
 -- the cycles finished: piece 0 is time 0, and after T cycles the last line asks for none
@@ -45,7 +45,7 @@ handAt files t s =
 -- The panel after t cycles: as it was loaded, but for the values in hand. The listing carries the session by value, and does not write
 -- it back.
 unfoldable pub panelAt : Files → ℕ → List ℕ
-panelAt files t = withHand (handAt files t) (panelOf files)
+panelAt files t = withHands (handAt files t) (panelOf files)
 
 abbrev pub panelAfter : Files → ℕ → List ℕ
 panelAfter files k = panelAt files (cyclesAfter files k)

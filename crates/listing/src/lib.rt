@@ -97,9 +97,9 @@ impl Lister {
                 length,
             };
         }
-        let time = pieces as u16;
-        if time == 0 {
-            let length = listing_cycle::write_changes(0, panel, memory, shown, out);
+        let time = Cycle(pieces as u16);
+        if pieces == 0 {
+            let length = listing_cycle::write_changes(time, panel, memory, shown, out);
             return Piece {
                 lister: Lister {
                     session,

@@ -1,5 +1,5 @@
 -- A time's lines of STIM, one after the other, as settings of the session.
-use Prim.Native.Nat.{ℕ, suc, _<_, _≤_}
+use Prim.Native.Nat.{ℕ, suc, _+_, _<_, _≤_}
 use mathlib.Core.Path.{_≡_, refl, sym, subst, _∙_, ap}
 use mathlib.Core.Bool.{Bool, true, false, false≢true}
 use mathlib.Core.List.{List, []}
@@ -15,16 +15,16 @@ use Rattle.model.specs.Machine.{Memory}
 use Rattle.model.specs.Stimulus.{stimTime, stimSignal, stimCount, lastGiven}
 use Rattle.model.specs.Session.{Head, Watch, set, replaced, Outcome, done}
 use Rattle.model.proofs.Accepted.{stim-right}
-use Rattle.buffers_tables.specs.Panel.{panelLength, signalsIn, kindIn, handIn}
+use Rattle.buffers_tables.specs.Panel.{panelLength, panelStride, watchedPlace, maskPlace, signalsIn, watchedIn, kindIn, handIn}
 use Rattle.buffers_range.proofs.Ranged.{panel-in-range, memory-in-range}
 use Rattle.session_state.specs.Header.{headIn}
-use Rattle.session_state.specs.Carried.{withHand}
+use Rattle.buffers_tables.specs.Stores.{withHands}
 use Rattle.session_state.specs.Commands.{signalIn, inputIn, withValue, commanded}
-use Rattle.session_state.proofs.Hands.{own-hand, with-hand-length, with-hand-hand, with-hand-kept, with-hand-over, with-hand-same}
+use Rattle.buffers_tables.specs.Holding.{SameFixed}
+use Rattle.buffers_tables.proofs.Stores.{fixed-kind}
+use Rattle.buffers_tables.proofs.Hands.{hands-length, hands-hand, hands-else, hands-fixed, hands-own, hands-over, hands-same}
 use Rattle.session_state.proofs.Commands.{input-signal, input-kind, signal-low, signal-high, set-no-signal, set-no-value, set-done}
 use Rattle.laws_kept.specs.InRange.{InRange}
-use Rattle.laws_kept.proofs.Tables.{SameTables, same-signals, same-kind}
-use Rattle.laws_kept.proofs.Heads.{with-hand-tables}
 use Rattle.laws_kept.proofs.Panels.{replaced-code, replaced-else, head-in-range, same-ranged}
 use Rattle.file_stim.specs.declared.Cursor.{Cursor}
 use Rattle.file_stim.proofs.Steps.{GivenAt}
@@ -45,10 +45,10 @@ pub setting-done : (n : Network) (stim panel program memory : List ℕ) (h : Hea
 setting-done n stim panel program memory h feeds line l later s v e few =
     ap (λ (o : Outcome Memory). o .answer) (set-done panel program memory h s v (line-input feeds line l later s e) few)
 
--- panels with the same tables have the same inputs
-same-input : {old new : List ℕ} → SameTables old new → signalsIn old ≤ 4096 → (s : ℕ) → inputIn new s ≡ inputIn old s
+-- panels with the same fixed numbers have the same inputs
+same-input : {old new : List ℕ} → SameFixed new old → signalsIn old ≤ 4096 → (s : ℕ) → inputIn new s ≡ inputIn old s
 unfolding inputIn signalIn _and_
-same-input {old} {new} same few s = rw (same-signals same) (go (leb 1 s) refl (leb s (signalsIn old)) refl)
+same-input {old} {new} same few s = rw (same .signals) (go (leb 1 s) refl (leb s (signalsIn old)) refl)
   where
     go : (a : Bool) → leb 1 s ≡ a → (b : Bool) → leb s (signalsIn old) ≡ b → ((a and b) and eqb (kindIn new s) input) ≡ ((a and b) and eqb (kindIn old s) input)
     go false e b f = refl
@@ -56,7 +56,7 @@ same-input {old} {new} same few s = rw (same-signals same) (go (leb 1 s) refl (l
     go true e true f =
         let low = leb-true 1 s e in
         let high = leb-true s (signalsIn old) f in
-        ap (λ (x : ℕ). eqb x input) (same-kind same s low (omega arith))
+        ap (λ (x : ℕ). eqb x input) (fixed-kind new old same s low (omega arith))
 
 -- what is no signal, or no input of the panel
 pub no-input : (panel : List ℕ) (s : ℕ) → (1 ≤ s → s ≤ signalsIn panel → kindIn panel s ≡ input → ⊥) → inputIn panel s ≡ false
@@ -101,7 +101,7 @@ fed-starts stim panel t line size few =
       low = omega arith;
       few = few;
       times = λ k l u. absurd (omega arith);
-      only = own-hand panel size;
+      only = sym (hands-own panel size);
       gates = λ s low high e. refl;
       codes = λ s low high l. l;
       hands = λ n feeds l hand. hand;
@@ -109,13 +109,13 @@ fed-starts stim panel t line size few =
 
 module _ {stim before : List ℕ} {t line : ℕ} {panel : List ℕ} {at : ℕ} (fed : Fed stim before t line panel at) where
   pub fed-size : length panel ≡ panelLength
-  fed-size = ap length (fed .only) ∙ with-hand-length (handIn panel) before
+  fed-size = ap length (fed .only) ∙ hands-length (handIn panel) before
 
-  pub fed-tables : SameTables before panel
-  fed-tables = subst (SameTables before) (sym (fed .only)) (with-hand-tables (handIn panel) before)
+  pub fed-fixed : SameFixed panel before
+  fed-fixed = subst (λ (x : List ℕ). SameFixed x before) (sym (fed .only)) (hands-fixed (handIn panel) before)
 
   pub fed-signals : signalsIn before ≤ 4096 → signalsIn panel ≤ 4096
-  fed-signals few = rw (same-signals fed-tables) few
+  fed-signals few = rw (fed-fixed .signals) few
 
   module _ {time signal value : ℕ} {next : Cursor} (g : GivenAt stim at time signal value next) (now : time ≡ t) where
     -- the value in hand after an accepted setting is what one line more gives
@@ -133,7 +133,7 @@ module _ {stim before : List ℕ} {t line : ℕ} {panel : List ℕ} {at : ℕ} (
 
     -- the panel that the setting leaves
     pub fed-more : signalsIn before ≤ 4096 → (finished : ℕ) (watch : Watch) (after : List ℕ)
-        → after ≡ withHand (commanded panel [] [] (record { finished = finished; hand = handIn panel; watch = watch }) (set signal value) .head .hand) panel
+        → after ≡ withHands (commanded panel [] [] (record { finished = finished; hand = handIn panel; watch = watch }) (set signal value) .head .hand) panel
         → Fed stim before t line after (next .line)
     fed-more few finished watch after e =
         subst (λ (x : ℕ). Fed stim before t line after x) (sym (g .follows ∙ add-one at)) more
@@ -145,7 +145,7 @@ module _ {stim before : List ℕ} {t line : ℕ} {panel : List ℕ} {at : ℕ} (
         low = g .before-end
 
         there : (s : ℕ) → 1 ≤ s → s ≤ 4096 → handIn after s ≡ handed panel h signal value s
-        there s a b = ap (λ (x : List ℕ). handIn x s) e ∙ with-hand-hand (handed panel h signal value) panel s a b
+        there s a b = ap (λ (x : List ℕ). handIn x s) e ∙ hands-hand (handed panel h signal value) panel s a b
 
         passed : (k : ℕ) → line ≤ k → k < suc at → Dec (k ≡ at) → stimTime stim k ≡ t
         passed k l u (yes q) = rw q (sym (g .time-is) ∙ now)
@@ -154,7 +154,7 @@ module _ {stim before : List ℕ} {t line : ℕ} {panel : List ℕ} {at : ℕ} (
         hands : (n : Network) → PanelInputs n stim before → 1 ≤ t → InHand n stim t line before → InHand n stim t (suc at) after
         hands n feeds l hand s a i =
             let right = stim-right n stim (feeds .passes) .given at low in
-            let is = same-input fed-tables few signal ∙ line-input feeds at low (omega (arith, g .time-is, now)) signal (g .signal-is) in
+            let is = same-input fed-fixed few signal ∙ line-input feeds at low (omega (arith, g .time-is, now)) signal (g .signal-is) in
             let known = signal-high before s (input-signal before s (feeds .inputs s a i)) in
             there s (a .low) (omega arith)
             ∙ ap (λ (o : Outcome Memory). o .head .hand s) (set-done panel [] [] h signal value is (omega (arith, g .value-is, right .value)))
@@ -167,11 +167,11 @@ module _ {stim before : List ℕ} {t line : ℕ} {panel : List ℕ} {at : ℕ} (
               few = omega arith;
               times = λ k l u. passed k l u (ℕ-discrete k at);
               only =
-                  e ∙ ap (withHand (handed panel h signal value)) (fed .only)
-                  ∙ with-hand-over (handed panel h signal value) (handIn panel) before
-                  ∙ with-hand-same (handed panel h signal value) (handIn after) before (λ s a b. sym (there s a b));
+                  e ∙ ap (withHands (handed panel h signal value)) (fed .only)
+                  ∙ hands-over (handed panel h signal value) (handIn panel) before
+                  ∙ hands-same (handed panel h signal value) (handIn after) before (λ s a b. sym (there s a b));
               gates = λ s a b q.
-                  there s a b ∙ set-gate panel h signal value s (same-input fed-tables few s ∙ q) ∙ fed .gates s a b q;
+                  there s a b ∙ set-gate panel h signal value s (same-input fed-fixed few s ∙ q) ∙ fed .gates s a b q;
               codes = λ s a b l. rw (there s a b) (set-code panel h signal value s (fed .codes s a b l));
               hands = hands;
             }
@@ -183,11 +183,11 @@ fed-right {stim} {before} {program} {memory} {panel = panel} fed right =
     record {
       sizes = record { panel-size = fed-size fed; program-size = right .sizes .program-size; memory-size = right .sizes .memory-size };
       range =
-          same-ranged (fed-tables fed)
+          same-ranged panel before (fed-fixed fed)
           (record {
-            watched-low = rw (kept 7 (omega arith), kept 8 (omega arith)) (own .watched-low);
-            watched-high = rw (kept 7 (omega arith), kept 8 (omega arith)) (own .watched-high);
-            mask-high = rw (kept 9 (omega arith)) (own .mask-high);
+            watched-low = rw watched-kept (own .watched-low);
+            watched-high = rw watched-kept (own .watched-high);
+            mask-high = rw (kept maskPlace (omega arith)) (own .mask-high);
             hands = λ s low high. fed .codes s low (omega (arith, many)) (own .hands s low high);
             rest = λ s low high. fed .gates s (omega arith) high (no-input before s (λ b c. omega arith)) ∙ own .rest s low high;
           })
@@ -200,8 +200,11 @@ fed-right {stim} {before} {program} {memory} {panel = panel} fed right =
     many : signalsIn before ≤ 4096
     many = panel-in-range before program memory (right .range) .head .signals-high
 
-    kept : (a : ℕ) → a < 10 → getD panel a 0 ≡ getD before a 0
-    kept a l = ap (λ (x : List ℕ). getD x a 0) (fed .only) ∙ with-hand-kept (handIn panel) before a (omega arith) (λ u e. omega arith)
+    kept : (a : ℕ) → a < panelStride → getD panel a 0 ≡ getD before a 0
+    kept a l = ap (λ (x : List ℕ). getD x a 0) (fed .only) ∙ hands-else (handIn panel) before a (omega arith) (λ u e. omega arith)
+
+    watched-kept : watchedIn panel ≡ watchedIn before
+    watched-kept = rw (kept watchedPlace (omega arith), kept (watchedPlace + 1) (omega arith))
 
 -- the lines of time 0, passed one after the other
 pub record Skipped (stim : List ℕ) (line : ℕ) : Type 0 where

@@ -10,7 +10,7 @@ use Rattle.model.specs.Stimulus.{stimTime, stimCheck, stimCount, lastGiven}
 use Rattle.buffers_tables.specs.Panel.{handIn}
 use Rattle.machine_run.specs.Running.{watchOf}
 use Rattle.session_state.specs.declared.Session.{Session}
-use Rattle.session_state.specs.Carried.{withHand}
+use Rattle.buffers_tables.specs.Stores.{withHands}
 use Rattle.session_state.specs.Commands.{inputIn}
 
 -- a STIM that some network accepts
@@ -39,7 +39,7 @@ pub record Fed (stim before : List ℕ) (t line : ℕ) (after : List ℕ) (next 
   pub low : line ≤ next
   pub few : next ≤ stimCount stim
   pub times : (k : ℕ) → line ≤ k → k < next → stimTime stim k ≡ t
-  pub only : after ≡ withHand (handIn after) before
+  pub only : after ≡ withHands (handIn after) before
   pub gates : (s : ℕ) → 1 ≤ s → s ≤ 4096 → inputIn before s ≡ false → handIn after s ≡ handIn before s
   pub codes : (s : ℕ) → 1 ≤ s → s ≤ 4096 → handIn before s ≤ 3 → handIn after s ≤ 3
   pub hands : (n : Network) → PanelInputs n stim before → 1 ≤ t → InHand n stim t line before → InHand n stim t next after

@@ -24,7 +24,7 @@ pub struct Settled {
 
 // The line of a signal, where its value is not the one last shown; the place after it.
 fn write_change(
-    time: u16,
+    time: Cycle,
     signal: u16,
     value: u8,
     at: usize,
@@ -32,8 +32,8 @@ fn write_change(
     out: &mut [u8],
 ) -> usize
     requires { ⌜ (signal < length (now shown)) × (at + 19 ≤ length (now out)) ⌝ }
-    ensures { λ r. ⌜ r ≡ at + length (changeLine time signal value (getD (now (shown .entry)) signal 0)) ⌝ }
-    ensures { λ _. ⌜ now (out .exit) ≡ sets (now (out .entry)) at (changeLine time signal value (getD (now (shown .entry)) signal 0)) ⌝ }
+    ensures { λ r. ⌜ r ≡ at + length (changeLine (time .0) signal value (getD (now (shown .entry)) signal 0)) ⌝ }
+    ensures { λ _. ⌜ now (out .exit) ≡ sets (now (out .entry)) at (changeLine (time .0) signal value (getD (now (shown .entry)) signal 0)) ⌝ }
     ensures { λ _. ⌜ now (shown .exit) ≡ set (now (shown .entry)) signal value ⌝ }
 {
     let last = shown[signal as usize];
@@ -41,12 +41,13 @@ fn write_change(
     if value == last {
         return at;
     }
-    writing::write_line(out, at, &[time, signal, value as u16])
+    let number = time.0;
+    writing::write_line(out, at, &[number, signal, value as u16])
 }
 
 // "each whose value differs from the time before, by time and signal". Before time 0 no value is shown, so that all differ.
 pub fn write_changes(
-    time: u16,
+    time: Cycle,
     panel: &[u8],
     memory: &[u8],
     shown: &mut [u8],
@@ -56,11 +57,11 @@ pub fn write_changes(
     requires { ⌜ ((s : ℕ) → 1 ≤ s → s ≤ signalsIn (now panel) → processorIn (now panel) s < 16) ⌝ }
     requires { ⌜ MemoryBytes (now memory) ⌝ }
     requires { ⌜ (length (now shown) ≡ shownLength) × (length (now out) ≡ pieceLength) ⌝ }
-    ensures { λ r. ⌜ r ≡ length (changeLines (signalsIn (now (panel .entry))) time (valueHeld (now (panel .entry)) (now (memory .entry))) (λ s. getD (now (shown .entry)) s 0)) ⌝ }
-    ensures { λ _. ⌜ now (out .exit) ≡ sets (now (out .entry)) 0 (changeLines (signalsIn (now (panel .entry))) time (valueHeld (now (panel .entry)) (now (memory .entry))) (λ s. getD (now (shown .entry)) s 0)) ⌝ }
+    ensures { λ r. ⌜ r ≡ length (changeLines (signalsIn (now (panel .entry))) (time .0) (valueHeld (now (panel .entry)) (now (memory .entry))) (λ s. getD (now (shown .entry)) s 0)) ⌝ }
+    ensures { λ _. ⌜ now (out .exit) ≡ sets (now (out .entry)) 0 (changeLines (signalsIn (now (panel .entry))) (time .0) (valueHeld (now (panel .entry)) (now (memory .entry))) (λ s. getD (now (shown .entry)) s 0)) ⌝ }
     ensures { λ _. ⌜ now (shown .exit) ≡ shownWith (signalsIn (now (panel .entry))) (valueHeld (now (panel .entry)) (now (memory .entry))) (λ s. getD (now (shown .entry)) s 0) ⌝ }
 {
-    let signals = words::word_at(panel, 0);
+    let signals = buffers_tables::signals(panel);
     let mut at: usize = 0;
     let mut s: u16 = 0;
     while s < signals {
@@ -107,15 +108,15 @@ pub fn end_time(stim: &[u8], lines: u16) -> Cycle
 pub fn take_settings(
     session: Session,
     cursor: Cursor,
-    time: u16,
+    time: Cycle,
     stim: &[u8],
     panel: &mut [u8],
 ) -> Settled
     requires { ⌜ Stimulus (now stim) ⌝ }
     requires { ⌜ cursor .line ≤ stimCount (now stim) ⌝ }
     requires { ⌜ (length (now panel) ≡ panelLength) × (signalsIn (now panel) ≤ 4096) ⌝ }
-    ensures { λ r. ⌜ Fed (now (stim .entry)) (now (panel .entry)) time (cursor .line) (now (panel .exit)) (r .cursor .line) ⌝ }
-    ensures { λ r. ⌜ (r .cursor .line < stimCount (now (stim .entry)) → stimTime (now (stim .entry)) (r .cursor .line) ≡ time → ⊥) ⌝ }
+    ensures { λ r. ⌜ Fed (now (stim .entry)) (now (panel .entry)) (time .0) (cursor .line) (now (panel .exit)) (r .cursor .line) ⌝ }
+    ensures { λ r. ⌜ (r .cursor .line < stimCount (now (stim .entry)) → stimTime (now (stim .entry)) (r .cursor .line) ≡ time .0 → ⊥) ⌝ }
     ensures { λ r. ⌜ SameNumbers session (r .session) ⌝ }
 {
     let mut session = session;
@@ -124,7 +125,7 @@ pub fn take_settings(
         let Step::Given(at, signal, value, next) = cursor.next(stim) else {
             return Settled { session, cursor };
         };
-        if at != time {
+        if at != time.0 {
             return Settled { session, cursor };
         }
         let told = session.set(panel, signal as u32, value as u32);

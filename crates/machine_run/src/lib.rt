@@ -70,9 +70,10 @@ pub fn value_of(panel: &[u8], memory: &[u8], signal: u16) -> u8
     requires { ⌜ MemoryBytes (now memory) ⌝ }
     ensures { λ r. ⌜ r ≡ memoryOf (now (memory .entry)) .earlierLocal (processorIn (now (panel .entry)) signal) (slotIn (now (panel .entry)) signal) ⌝ }
 {
-    let at = 10 * (signal as usize);
-    let processor = words::widened(panel[at + 8]) as usize;
-    buffers_memory::fetch(memory, processor, Operand::LocalEarlier(panel[at + 9]))
+    let s = signal as usize;
+    let processor = buffers_tables::place_processor(panel, s);
+    let slot = buffers_tables::place_slot(panel, s);
+    buffers_memory::fetch(memory, processor, Operand::LocalEarlier(slot))
 }
 
 // "A run stops after the first cycle whose end shows a watched value, else after k."
@@ -82,8 +83,8 @@ pub fn run(panel: &[u8], program: &[u8], memory: &mut [u8], watch: Watch, cycles
     requires { ⌜ MemoryBytes (now memory) ⌝ }
     ensures { λ r. ⌜ (r .done .0 ≡ runIn (now (panel .entry)) (now (program .entry)) (watchOf watch) (cycles .0) (memoryOf (now (memory .entry))) .count) × (r .stopped ≡ runIn (now (panel .entry)) (now (program .entry)) (watchOf watch) (cycles .0) (memoryOf (now (memory .entry))) .stopped) × (now (memory .exit) ≡ withMemory (processorsIn (now (panel .entry))) (slotsIn (now (panel .entry))) (runIn (now (panel .entry)) (now (program .entry)) (watchOf watch) (cycles .0) (memoryOf (now (memory .entry))) .state) (now (memory .entry))) ⌝ }
 {
-    let processors = words::widened(panel[2]) as usize;
-    let slots = words::word_at(panel, 3);
+    let processors = buffers_tables::processors(panel);
+    let slots = buffers_tables::slots(panel);
     let signal = watch.signal;
     let mask = watch.mask;
     let k = cycles.0;

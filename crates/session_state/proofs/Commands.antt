@@ -18,7 +18,7 @@ use Rattle.buffers_tables.specs.Tables.{networkIn, moduleIn}
 use Rattle.machine_run.specs.Running.{watchOf}
 use Rattle.session_answers.specs.Answers.{callAnswer}
 use Rattle.session_state.specs.declared.Told.{Told}
-use Rattle.session_state.specs.Carried.{withHand}
+use Rattle.buffers_tables.specs.Stores.{withHands}
 use Rattle.buffers_lengths.specs.Lengths.{fixed}
 use Rattle.session_state.specs.Commands.{signalIn, inputIn, withValue, commanded, Tells}
 
@@ -51,7 +51,7 @@ module _ (panel : List ℕ) (s : ℕ) (r : Bool) (e : r ≡ signalIn panel s) wh
 
 -- if a command's outcome is known by an equation, what it tells is told by that
 pub tells : {State : Type 0} (o p : Outcome State) (told : Told) (before after : List ℕ) → o ≡ p → callAnswer (told .answer) ≡ p .answer
-    → told .session .finished .0 ≡ p .head .finished → watchOf (told .session .watch) ≡ p .head .watch → after ≡ withHand (p .head .hand) before
+    → told .session .finished .0 ≡ p .head .finished → watchOf (told .session .watch) ≡ p .head .watch → after ≡ withHands (p .head .hand) before
     → Tells o told before after
 tells {State} o p told before after e a t w hand =
     subst (λ (x : Outcome State). Tells x told before after) (sym e) (record { answer = a; finished = t; watch = w; hand = hand })
@@ -93,7 +93,7 @@ module _ (panel program memory : List ℕ) (h : Head) (s : ℕ) where
   abbrev TellsRefusal : Call → ℕ → ℕ → Type 0
   TellsRefusal call number returned =
       (told : Told) → callAnswer (told .answer) ≡ refused number returned → told .session .finished .0 ≡ h .finished → watchOf (told .session .watch) ≡ h .watch
-      → panel ≡ withHand (h .hand) panel → Tells (commanded panel program memory h call) told panel panel
+      → panel ≡ withHands (h .hand) panel → Tells (commanded panel program memory h call) told panel panel
 
   -- a call that names a signal and gives a number: 41 where the signal is not known, then 42 where the number is above its limit
   module _ (call : Call) (known : Bool) (given limit : ℕ)

@@ -1,5 +1,3 @@
-pub mod Stored
-pub mod Hands
 pub mod Heads
 pub mod Commands
 pub mod Running

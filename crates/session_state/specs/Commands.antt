@@ -15,7 +15,7 @@ use Rattle.buffers_lengths.specs.Lengths.{fixed}
 use Rattle.machine_run.specs.Running.{watchOf}
 use Rattle.session_answers.specs.Answers.{callAnswer}
 use Rattle.session_state.specs.declared.Told.{Told}
-use Rattle.session_state.specs.Carried.{withHand}
+use Rattle.buffers_tables.specs.Stores.{withHands}
 
 abbrev pub commanded : List ℕ → List ℕ → List ℕ → Head → Call → Outcome Memory
 commanded panel program memory head call =
@@ -40,4 +40,4 @@ pub record Tells {State : Type 0} (o : Outcome State) (told : Told) (before afte
   pub answer : callAnswer (told .answer) ≡ o .answer
   pub finished : told .session .finished .0 ≡ o .head .finished
   pub watch : watchOf (told .session .watch) ≡ o .head .watch
-  pub hand : after ≡ withHand (o .head .hand) before
+  pub hand : after ≡ withHands (o .head .hand) before

@@ -1,4 +1,3 @@
 pub mod Header
 pub mod Carried
-pub mod Stores
 pub mod Commands

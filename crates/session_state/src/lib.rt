@@ -2,8 +2,8 @@
 
 ghost use mathlib.Core.Path.{_≡_};
 ghost use mathlib.Core.List.{List};
-ghost use Prim.Native.Nat.{ℕ, _+_, _*_, _≤_, _<_};
-ghost use lib.ListN.{length, set};
+ghost use Prim.Native.Nat.{ℕ, _≤_, _<_};
+ghost use lib.ListN.{length};
 ghost use Rattle.model.specs.Session.{set as setting, watch as watching, read as reading, run as running};
 ghost use Rattle.buffers_memory.specs.Memory.{withMemory, MemoryBytes};
 ghost use Rattle.buffers_tables.specs.Panel.{panelLength, signalsIn, processorIn, processorsIn, slotsIn};
@@ -11,7 +11,6 @@ ghost use Rattle.buffers_tables.specs.Tables.{Tables};
 ghost use Rattle.machine_run.specs.Running.{watchOf, Watching};
 ghost use Rattle.session_state.specs.Header.{headIn, withHead};
 ghost use Rattle.session_state.specs.Carried.{headOf};
-ghost use Rattle.session_state.specs.Stores.{wordStored, numbersStored};
 ghost use Rattle.session_state.specs.Commands.{signalIn, inputIn, commanded, Tells};
 use clock::Cycle;
 use machine_run::Watch;
@@ -35,47 +34,12 @@ pub fn decode(panel: &[u8]) -> Session
     ensures { λ r. ⌜ (headOf r (now (panel .entry)) ≡ headIn (now (panel .entry))) × (withHead (headIn (now (panel .entry))) (now (panel .entry)) ≡ now (panel .entry)) ⌝ }
 {
     Session {
-        finished: Cycle(words::word_of(panel[5], panel[6])),
+        finished: Cycle(buffers_tables::finished(panel)),
         watch: Watch {
-            signal: words::word_of(panel[7], panel[8]),
-            mask: panel[9],
+            signal: buffers_tables::watched(panel),
+            mask: buffers_tables::mask(panel),
         },
     }
-}
-
-// A number in two bytes, the low one first.
-fn store_word(number: u16, at: usize, panel: &mut [u8])
-    requires { ⌜ (length (now panel) ≡ panelLength) × (at ≤ 10) ⌝ }
-    ensures { λ _. ⌜ now (panel .exit) ≡ wordStored number at (now (panel .entry)) ⌝ }
-{
-    panel[at] = (number % 256) as u8;
-    panel[at + 1] = (number / 256) as u8;
-}
-
-// The mask of the watch.
-fn store_mask(mask: u8, panel: &mut [u8])
-    requires { ⌜ length (now panel) ≡ panelLength ⌝ }
-    ensures { λ _. ⌜ now (panel .exit) ≡ set (now (panel .entry)) 9 mask ⌝ }
-{
-    panel[9] = mask;
-}
-
-// The cycles finished and the watch, written into the session's ten bytes.
-fn store_numbers(finished: u16, signal: u16, mask: u8, panel: &mut [u8])
-    requires { ⌜ length (now panel) ≡ panelLength ⌝ }
-    ensures { λ _. ⌜ now (panel .exit) ≡ numbersStored finished signal mask (now (panel .entry)) ⌝ }
-{
-    store_word(finished, 5, panel);
-    store_word(signal, 7, panel);
-    store_mask(mask, panel);
-}
-
-// A value in hand, written into the bytes of its signal.
-fn store_hand(signal: usize, value: u8, panel: &mut [u8])
-    requires { ⌜ (length (now panel) ≡ panelLength) × (signal ≤ 4096) ⌝ }
-    ensures { λ _. ⌜ now (panel .exit) ≡ set (now (panel .entry)) (10 * signal + 7) value ⌝ }
-{
-    panel[10 * signal + 7] = value;
 }
 
 // A signal of the network: 1 to N.
@@ -86,7 +50,7 @@ fn is_signal(panel: &[u8], signal: u32) -> bool
     if signal == 0 {
         return false;
     }
-    signal <= words::word_at(panel, 0) as u32
+    signal <= buffers_tables::signals(panel) as u32
 }
 
 // An input of the network: "setting a gate" is refused.
@@ -97,7 +61,7 @@ fn is_input(panel: &[u8], signal: u32) -> bool
     if !is_signal(panel, signal) {
         return false;
     }
-    panel[10 * (signal as usize)] == 1
+    buffers_tables::kind(panel, signal as usize) == 1
 }
 
 impl Session {
@@ -106,7 +70,8 @@ impl Session {
         requires { ⌜ length (now panel) ≡ panelLength ⌝ }
         ensures { λ _. ⌜ now (panel .exit) ≡ withHead (headOf self (now (panel .entry))) (now (panel .entry)) ⌝ }
     {
-        store_numbers(self.finished.0, self.watch.signal, self.watch.mask, panel);
+        buffers_tables::set_finished(panel, self.finished.0);
+        buffers_tables::set_watch(panel, self.watch.signal, self.watch.mask);
     }
 
     // "Set an input for the next cycle": its value in hand is replaced in the panel, and no other byte. Refused, none is.
@@ -127,7 +92,7 @@ impl Session {
                 answer: CallAnswer::NoSuchValue(value),
             };
         }
-        store_hand(input as usize, value as u8, panel);
+        buffers_tables::set_hand(panel, input as usize, value as u8);
         Told {
             session: self,
             answer: CallAnswer::Done,

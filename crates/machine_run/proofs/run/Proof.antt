@@ -24,12 +24,11 @@ abbrev μ-loop : tie.MeasureT-loop
 
 -- from the loop back to the start
 abbrev start-of : tie.At-loop Inv-loop μ-loop → tie.Start Inv-loop μ-loop
-start-of loop =
-    loop .before .before .before .before .before .before .before
+start-of loop = loop .before .before .before .before .before .before
 
 loop-holds : tie.Need-loop-holds Inv-loop μ-loop
 loop-holds c =
-    let start = c .before .before .before .before .before .before in
+    let start = c .before .before .before .before .before in
     (omega arith, start .pre .1 .1, none-done (start .pre .0) _ (start .pre .1 .1 .size), λ i a b. absurd (omega arith))
 
 value-of-requires : tie.Need-value-of-requires Inv-loop μ-loop
@@ -79,9 +78,7 @@ run-spec =
     (tie.spec
     Inv-loop
     μ-loop
-    (λ c. search needs)
     (λ c κs. search needs)
-    (λ c. search needs)
     (λ c κs. search needs)
     loop-holds
     (λ c κs. search needs)

@@ -14,7 +14,7 @@ returns c = rw (c .if1 .taken)
 
 returns-2 : tie.Need-returns-2
 unfolding signalIn _and_
-returns-2 c = let one : 1 ≤ c .before .before .before .args .signal = omega arith in rw (le-leb _ _ one, ← c .word-at .ensures)
+returns-2 c = let one : 1 ≤ c .before .before .before .args .signal = omega arith in rw (le-leb _ _ one, ← c .signals .ensures)
 
 pub is-signal-spec : {M : Type 1} → statement M
 is-signal-spec = tie.close (tie.spec returns (λ c κs. search needs) (λ c. search needs) returns-2)

@@ -1,11 +1,11 @@
 -- `read`: 41, or the value at the signal's place.
-use mathlib.Core.Path.{refl, ap}
+use mathlib.Core.Path.{refl, sym, ap}
 use Prim.Native.Nat.{ℕ}
 use Rattle.model.specs.Session.{value}
 use Rattle.session_state.specs.Carried.{headOf}
 use Rattle.logic.proofs.Judged.{fails, passes}
 use Rattle.session_state.proofs.Commands.{signal-low, signal-high, read-no-signal, read-done, tells}
-use Rattle.session_state.proofs.Hands.{own-hand}
+use Rattle.buffers_tables.proofs.Hands.{hands-own}
 use native.Mathlib.Omega.{arith}
 use borrow.Author.Needs.{needs}
 use Rattle.session_state.proofs.Session.read.Statement.{statement}
@@ -17,7 +17,7 @@ returns c =
     λ program.
     tells _ _ _ _ _
     (read-no-signal (s .args .panel .now) program (s .args .memory .now) (headOf (s .args .self) (s .args .panel .now)) (s .args .signal) (fails _ _ (c .before .is-signal .ensures) (c .if1 .taken)))
-    refl refl refl (own-hand _ (s .pre .0 .0))
+    refl refl refl (sym (hands-own _ (s .pre .0 .0)))
 
 cast-value-of : tie.Need-cast-value-of
 cast-value-of c =
@@ -40,7 +40,7 @@ returns-2 c =
     λ program.
     tells _ _ _ _ _
     (read-done (s .args .panel .now) program (s .args .memory .now) (headOf (s .args .self) (s .args .panel .now)) (s .args .signal) (passes _ _ (c .before .before .is-signal .ensures) (c .before .if1 .left)))
-    (ap (λ (x : ℕ). value x) (c .value-of .ensures)) refl refl (own-hand _ (s .pre .0 .0))
+    (ap (λ (x : ℕ). value x) (c .value-of .ensures)) refl refl (sym (hands-own _ (s .pre .0 .0)))
 
 pub read-spec : {M : Type 1} → statement M
 read-spec =

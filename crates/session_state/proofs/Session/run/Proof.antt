@@ -10,7 +10,7 @@ use Rattle.machine_run.specs.Running.{watchOf, runIn}
 use Rattle.session_state.specs.Carried.{headOf}
 use Rattle.session_state.proofs.Commands.{tells}
 use Rattle.session_state.proofs.Running.{run-refused, memory-kept, run-done, run-most}
-use Rattle.session_state.proofs.Hands.{own-hand}
+use Rattle.buffers_tables.proofs.Hands.{hands-own}
 use native.Mathlib.Omega.{arith}
 use borrow.Author.Needs.{needs}
 use Rattle.session_state.proofs.Session.run.Statement.{statement}
@@ -29,7 +29,7 @@ returns c =
     let memory = s .args .memory .now in
     let k = s .args .cycles in
     let l : 65535 < h .finished + k = omega (arith, c .if1 .taken) in
-    (tells _ _ _ _ _ (run-refused panel program memory h k l) refl refl refl (own-hand panel (s .pre .0 .panel-size)), memory-kept panel program memory h k (s .pre .1 .1 .size) l)
+    (tells _ _ _ _ _ (run-refused panel program memory h k l) refl refl refl (sym (hands-own panel (s .pre .0 .panel-size))), memory-kept panel program memory h k (s .pre .1 .1 .size) l)
 
 add-t17 : tie.Need-add-t17
 add-t17 c =
@@ -50,7 +50,7 @@ returns-2 c =
     let e = run-done panel program memory (h .finished) (h .watch) k l in
     let did = c .before .before .run .ensures in (
       tells _ _ _ _ _ e (ap (λ (x : ℕ). ran x (c .before .before .run .result .stopped)) (did .0) ∙ ap (ran (runIn panel program (h .watch) k (memoryOf memory) .count)) (did .1))
-          (ap (λ (x : ℕ). h .finished + x) (did .0)) refl (own-hand panel (s .pre .0 .panel-size)),
+          (ap (λ (x : ℕ). h .finished + x) (did .0)) refl (sym (hands-own panel (s .pre .0 .panel-size))),
       did .2 ∙ ap (λ (o : Outcome Memory). withMemory (processorsIn panel) (slotsIn panel) (o .state) memory) (sym e),
     )
 
