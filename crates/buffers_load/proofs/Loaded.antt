@@ -20,7 +20,7 @@ use Rattle.model.proofs.Accepted.{mod-accepted, mod-processors, mod-slots, mod-
 use Rattle.model.specs.Checked.{Checked}
 use Rattle.model.proofs.Checked.{files-checked, checked-size}
 use Rattle.buffers_tables.specs.Panel.{panelLength, panelStride, signalsPlace, processorsPlace, slotsPlace, finishedPlace, watchedPlace, maskPlace, headBytes, kindColumn, codesColumn, handColumn, processorColumn, slotColumn, signalStart, signalByte, signalOf, columnOf, signalsIn, slotsIn, finishedIn, watchedIn, maskIn, kindIn, codesIn, handIn, processorIn, slotIn}
-use Rattle.buffers_tables.specs.Program.{programLength, lineStride, operandColumn, sendColumn, senderColumn, lineIn, lineProcessor, lineSlot, lineColumn, lineBytes, signalAt, partAt, locationAt}
+use Rattle.buffers_tables.specs.Program.{programLength, lineStride, signalColumn, operandColumn, sendColumn, senderColumn, lineIn, lineProcessor, lineSlot, lineColumn, lineBytes, signalAt, partAt, locationAt}
 use Rattle.buffers_tables.specs.Tables.{moduleIn, networkIn, Tables}
 use Rattle.buffers_tables.specs.Holding.{SameLines, Holding}
 use Rattle.buffers_load_files.specs.Loaded.{timeZero, placeOf, placedBytes, panelByte, panelWith, panelOf, programByte, programFrom, programOf}
@@ -110,7 +110,7 @@ module _ {limit : ℕ} (few : limit ≤ panelLimit) (files : Files) (accepted : 
         ∙ byte-within modfile p i c (a .processor) (a .slot)
 
     signal-there : signalAt (programOf files) p i ≡ moduleOfFiles files .signal p i
-    signal-there = omega (arith, line-there 0 (lineIn p i) (omega arith) (omega arith), line-there 1 (lineIn p i + 1) (omega arith) refl)
+    signal-there = omega (arith, line-there signalColumn (lineIn p i) (omega arith) (omega arith), line-there (signalColumn + 1) (lineIn p i + 1) (omega arith) refl)
 
     part-there : (j : ℕ) → j < 4 → partAt (programOf files) p i j ≡ moduleOfFiles files .part p i j
     part-there zero h = line-there (operandColumn 0) _ (omega arith) (omega arith)
