@@ -20,9 +20,10 @@ use Rattle.model.proofs.Accepted.{mod-accepted, mod-processors, mod-slots, mod-
 use Rattle.model.specs.Checked.{Checked}
 use Rattle.model.proofs.Checked.{files-checked, checked-size}
 use Rattle.buffers_tables.specs.Panel.{panelLength, panelStride, signalsPlace, processorsPlace, slotsPlace, finishedPlace, watchedPlace, maskPlace, headBytes, kindColumn, codesColumn, handColumn, processorColumn, slotColumn, signalStart, signalByte, signalOf, columnOf, signalsIn, slotsIn, finishedIn, watchedIn, maskIn, kindIn, codesIn, handIn, processorIn, slotIn}
-use Rattle.buffers_tables.specs.Program.{programLength, lineStride, operandColumn, sendColumn, senderColumn, lineIn, lineProcessor, lineSlot, lineColumn, lineBytes, signalAt, partAt, locationAt}
+use Rattle.buffers_tables.specs.Program.{programLength, lineStride, signalColumn, operandColumn, sendColumn, senderColumn, lineIn, lineProcessor, lineSlot, lineColumn, lineBytes, signalAt, partAt, locationAt}
 use Rattle.buffers_tables.specs.Tables.{moduleIn, networkIn, Tables}
 use Rattle.buffers_tables.specs.Holding.{SameLines, Holding}
+use Rattle.buffers_tables.proofs.Places.{at-signal, at-column, byte-low, line-low, at-line-processor, at-line-slot, at-line-column}
 use Rattle.buffers_load_files.specs.Loaded.{timeZero, placeOf, placedBytes, panelByte, panelWith, panelOf, programByte, programFrom, programOf}
 use Rattle.buffers_load_files.specs.Checked.{ModuleChecked}
 use Rattle.buffers_load_program.proofs.Program.{byte-within}
@@ -67,13 +68,12 @@ pub program-byte : (modfile : List ℕ) (p i c x : ℕ) → p < 16 → i < 256 �
     → getD (programFrom modfile) x 0 ≡ programByte modfile p i c
 unfolding programFrom
 program-byte modfile p i c x low-p low-i low-c e =
-    let a : lineProcessor x ≡ p = omega arith in
-    let b : lineSlot x ≡ i = omega arith in
-    let d : lineColumn x ≡ c = omega arith in
-    listed-at programLength (λ y. programByte modfile (lineProcessor y) (lineSlot y) (lineColumn y)) x (omega arith)
-    ∙ ap (λ (y : ℕ). programByte modfile y (lineSlot x) (lineColumn x)) a
-    ∙ ap (λ (y : ℕ). programByte modfile p y (lineColumn x)) b
-    ∙ ap (λ (y : ℕ). programByte modfile p i y) d
+    let y = lineIn p i + c in
+    ap (λ (z : ℕ). getD (programFrom modfile) z 0) e
+    ∙ listed-at programLength (λ z. programByte modfile (lineProcessor z) (lineSlot z) (lineColumn z)) y (line-low p i c low-p low-c low-i)
+    ∙ ap (λ (z : ℕ). programByte modfile z (lineSlot y) (lineColumn y)) (at-line-processor p i c low-p low-c)
+    ∙ ap (λ (z : ℕ). programByte modfile p z (lineColumn y)) (at-line-slot p i c low-p low-c)
+    ∙ ap (λ (z : ℕ). programByte modfile p i z) (at-line-column p i c low-p low-c)
 
 -- the bytes of a signal, and of the session at 0
 pub panel-byte : (files : Files) (s c x : ℕ) → s ≤ 4096 → c < panelStride → x ≡ signalByte s c
@@ -81,12 +81,12 @@ pub panel-byte : (files : Files) (s c x : ℕ) → s ≤ 4096 → c < panelStrid
     ≡ panelByte (files .NET) (modProcessors (files .MOD)) (modSlots (files .MOD)) (placeOf (files .MOD)) (timeZero files) s c
 unfolding panelOf panelWith
 panel-byte files s c x low-s low-c e =
-    let a : signalOf x ≡ s = omega arith in
-    let b : columnOf x ≡ c = omega arith in
     let byte = panelByte (files .NET) (modProcessors (files .MOD)) (modSlots (files .MOD)) (placeOf (files .MOD)) (timeZero files) in
-    listed-at panelLength (λ y. byte (signalOf y) (columnOf y)) x (omega arith)
-    ∙ ap (λ (y : ℕ). byte y (columnOf x)) a
-    ∙ ap (λ (y : ℕ). byte s y) b
+    let y = signalByte s c in
+    ap (λ (z : ℕ). getD (panelOf files) z 0) e
+    ∙ listed-at panelLength (λ z. byte (signalOf z) (columnOf z)) y (byte-low s c low-c low-s)
+    ∙ ap (λ (z : ℕ). byte z (columnOf y)) (at-signal s c low-c)
+    ∙ ap (λ (z : ℕ). byte s z) (at-column s c low-c)
 
 module _ {limit : ℕ} (few : limit ≤ panelLimit) (files : Files) (accepted : Accepted limit files) where
   abbrev net : List ℕ
@@ -110,7 +110,7 @@ module _ {limit : ℕ} (few : limit ≤ panelLimit) (files : Files) (accepted : 
         ∙ byte-within modfile p i c (a .processor) (a .slot)
 
     signal-there : signalAt (programOf files) p i ≡ moduleOfFiles files .signal p i
-    signal-there = omega (arith, line-there 0 (lineIn p i) (omega arith) (omega arith), line-there 1 (lineIn p i + 1) (omega arith) refl)
+    signal-there = omega (arith, line-there signalColumn (lineIn p i) (omega arith) (omega arith), line-there (signalColumn + 1) (lineIn p i + 1) (omega arith) refl)
 
     part-there : (j : ℕ) → j < 4 → partAt (programOf files) p i j ≡ moduleOfFiles files .part p i j
     part-there zero h = line-there (operandColumn 0) _ (omega arith) (omega arith)

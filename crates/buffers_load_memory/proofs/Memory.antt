@@ -1,6 +1,6 @@
 -- The bytes of the opening memory, by an array of time 0 values, and that the array's values are the signals'.
 use Prim.Native.Nat.{ℕ, zero, suc, _<_, _≤_}
-use mathlib.Core.Path.{_≡_, refl, sym, _∙_, ap}
+use mathlib.Core.Path.{_≡_, refl, sym, _∙_}
 use mathlib.Core.Bool.{true, false}
 use mathlib.Core.List.{List}
 use mathlib.Core.Logic.{⊎-elim}
@@ -87,11 +87,8 @@ module _ (modfile : List ℕ) (zeroth : ℕ → ℕ) {p part k : ℕ} (there : P
         go : Dec (part ≡ 1) → openingByte modfile zeroth p part k ≡ 0
         go (yes e) = fetched (omega arith) ∙ rw e
         go (no n) =
-            let e : part ≡ blank = omega (arith, there .part-low) in
-            ap (λ (x : ℕ). openingByte modfile zeroth p x k) e
-            ∙ written-blank _ _ _ p k
-            ∙ sym (ap (λ (x : ℕ). getD (listed memoryLength (λ a. 0)) (place p x k) 0) e)
-            ∙ blank-byte
+            let l : blank ≤ part = omega arith in
+            written-blank _ _ _ p part k l ∙ blank-byte
 
 -- byte a of the memory as the code tells it, by its tests of the processor, the location and the part
 module _ (modfile : List ℕ) (zeroth : ℕ → ℕ) {P C a : ℕ} (fits : (P ≡ modProcessors modfile) × (C ≡ modSlots modfile) × (a < memoryLength)) where

@@ -6,7 +6,7 @@ use mathlib.Core.Logic.{⊎-elim}
 use native.Mathlib.Omega.{arith}
 use lib.ListN.{getD}
 use Rattle.model.specs.ModuleFile.{modField, modProcessors, modSlots, modIndex, moduleOf}
-use Rattle.buffers_tables.specs.Program.{lineStride, operandsColumn, lineBytes}
+use Rattle.buffers_tables.specs.Program.{lineStride, signalColumn, operandsColumn, lineBytes}
 use Rattle.buffers_load_files.specs.Checked.{ModuleChecked}
 use Rattle.buffers_load_files.proofs.Fields.{processors-range, slots-range, slot-fits}
 
@@ -54,11 +54,11 @@ module _ {modfile : List ℕ} (s : ModuleChecked modfile) {p i : ℕ} (low-p : p
 
 -- the bytes of a line are MOD's columns from the third on
 module _ (modfile : List ℕ) (p i : ℕ) where
-  pub signal-low : getD (lineBytes (moduleOf modfile) p i) 0 0 ≡ modField modfile (modIndex modfile p i) 2 % 256
+  pub signal-low : getD (lineBytes (moduleOf modfile) p i) signalColumn 0 ≡ modField modfile (modIndex modfile p i) 2 % 256
   unfolding moduleOf
   signal-low = refl
 
-  pub signal-high : getD (lineBytes (moduleOf modfile) p i) 1 0 ≡ modField modfile (modIndex modfile p i) 2 / 256
+  pub signal-high : getD (lineBytes (moduleOf modfile) p i) (signalColumn + 1) 0 ≡ modField modfile (modIndex modfile p i) 2 / 256
   unfolding moduleOf
   signal-high = refl
 

@@ -8,6 +8,7 @@ ghost use Rattle.buffers_tables.specs.Program.{programLength, lineStride, lineB
 ghost use Rattle.buffers_load_files.specs.Loaded.{programByte, programFrom};
 ghost use Rattle.buffers_load_files.specs.Checked.{ModuleChecked};
 use buffers_tables::LINE_STRIDE;
+use buffers_tables::SIGNAL;
 use buffers_tables::SLOT_LINES;
 
 // One of the bytes of the line of a processor and a slot: the signal takes two, and every other number is below 256.
@@ -16,10 +17,10 @@ fn line_byte(modfile: &[u8], slots: usize, processor: usize, slot: usize, column
     requires { ⌜ (slots ≡ modSlots (now modfile)) × (processor < modProcessors (now modfile)) × (slot < slots) × (column < lineStride) ⌝ }
     ensures { λ r. ⌜ r ≡ getD (lineBytes (moduleOf (now (modfile .entry))) processor slot) column 0 ⌝ }
 {
-    if column == 0 {
+    if column == SIGNAL {
         return (buffers_load_files::field_at(modfile, slots, processor, slot, 2) % 256) as u8;
     }
-    if column == 1 {
+    if column == SIGNAL + 1 {
         return (buffers_load_files::field_at(modfile, slots, processor, slot, 2) / 256) as u8;
     }
     buffers_load_files::field_at(modfile, slots, processor, slot, column + 1) as u8

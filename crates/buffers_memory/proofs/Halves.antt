@@ -6,7 +6,7 @@ use mathlib.Core.List.{List}
 use native.Mathlib.Omega.{arith}
 use lib.ListN.{length, getD, set, length-set}
 use Rattle.model.specs.Machine.{Memory, fetch, alternate}
-use Rattle.buffers_memory.specs.Memory.{memoryLength, blank, place, memoryOf, written, within, here, below, withMemory}
+use Rattle.buffers_memory.specs.Memory.{memoryLength, processorParts, blank, place, memoryOf, written, within, here, below, withMemory}
 use Rattle.buffers_memory.proofs.Written.{Place, is-written, written-else, written-join, written-kept, stored-there, stored-else}
 use Rattle.buffers_memory.proofs.Regions.{here-written, below-none, within-none, below-here, below-else, here-new, within-below, within-else, below-new}
 
@@ -46,10 +46,10 @@ swapped-length : (l : List ℕ) (a b : ℕ) → length (swapped l a b) ≡ lengt
 swapped-length l a b = length-set (set l a (getD l b 0)) b (getD l a 0) ∙ length-set l a (getD l b 0)
 
 module _ (p k : ℕ) (low : p < 16) (small : k < 256) where
-  at : (part : ℕ) → part < 5 → Place p part k
+  at : (part : ℕ) → part < processorParts → Place p part k
   at part h = record { processor-low = low; part-low = h; location-low = small }
 
-  module _ (l : List ℕ) (size : length l ≡ memoryLength) (x y : ℕ) (x-low : x < 5) (y-low : y < 5) (differ : x ≡ y → ⊥) where
+  module _ (l : List ℕ) (size : length l ≡ memoryLength) (x y : ℕ) (x-low : x < processorParts) (y-low : y < processorParts) (differ : x ≡ y → ⊥) where
     swap-size : length (set l (place p x k) (getD l (place p y k) 0)) ≡ memoryLength
     swap-size = length-set l (place p x k) (getD l (place p y k) 0) ∙ size
 

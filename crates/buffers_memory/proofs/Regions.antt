@@ -53,11 +53,7 @@ here-written p k w l r size there rest =
         ∙ sym (written-here (here p k) w l q part j t h)
     inside q part j a e t false b =
         let h = ltb-false part blank b in
-        let i = a .part-low in
-        let is : part ≡ blank = omega arith in
-        rest q part j a (λ f. omega (arith, f .1)) ∙ ap (λ (y : ℕ). getD l (place q y j) 0) is
-        ∙ sym (written-blank (here p k) w l q j)
-        ∙ ap (λ (y : ℕ). writtenAt (here p k) w l q y j) (sym is)
+        rest q part j a (λ f. omega (arith, f .1)) ∙ sym (written-blank (here p k) w l q part j h)
 
     go : (q part j : ℕ) → Place q part j → (b : Bool) → here p k q j ≡ b → getD r (place q part j) 0 ≡ writtenAt (here p k) w l q part j
     go q part j a true t = inside q part j a (here-is p k q j t) t (ltb part blank) refl

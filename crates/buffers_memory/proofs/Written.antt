@@ -1,6 +1,6 @@
 -- Laws of `written`: what stands at a place after a memory is written, and lists that are so written. The idea: every byte has one
 -- processor, part and location.
-use Prim.Native.Nat.{ℕ, zero, suc, _<_}
+use Prim.Native.Nat.{ℕ, zero, suc, _<_, _≤_}
 use mathlib.Core.Path.{_≡_, refl, sym, subst, _∙_, ap}
 use mathlib.Core.Bool.{Bool, true, false}
 use mathlib.Core.List.{List}
@@ -8,17 +8,17 @@ use native.Mathlib.Omega.{arith}
 use lib.Dec.{ltb}
 use lib.ListN.{length, getD, set}
 use lib.Seq.{getD-set-same, getD-set-other}
-use borrow.Author.Tests.{lt-ltb, ltb-true, ltb-false}
+use borrow.Author.Tests.{lt-ltb, le-ltb, ltb-true, ltb-false}
 use Rattle.logic.specs.Test.{_and_}
-use Rattle.logic.specs.Choice.{if_then_else_}
 use Rattle.logic.proofs.Listed.{listed-length, listed-at, is-listed}
+use Rattle.logic.proofs.Judged.{and-false}
 use Rattle.model.specs.Machine.{Memory, fetch}
-use Rattle.buffers_memory.specs.Memory.{memoryLength, blank, place, byteProcessor, bytePart, byteLocation, memoryOf, writtenAt, written, MemoryBytes}
+use Rattle.buffers_memory.specs.Memory.{memoryLength, processorParts, blank, place, byteProcessor, bytePart, byteLocation, memoryOf, writtenAt, written, MemoryBytes}
 
 -- a processor, a part and a location of the memory
 pub record Place (p part k : ℕ) : Type 0 where
   pub processor-low : p < 16
-  pub part-low : part < 5
+  pub part-low : part < processorParts
   pub location-low : k < 256
 
 -- one byte for each, and each byte for one
@@ -79,13 +79,9 @@ module _ (test : ℕ → ℕ → Bool) (w : Memory) (old : List ℕ) where
   unfolding writtenAt _and_
   written-else p part k t = rw t
 
-  pub written-blank : (p k : ℕ) → writtenAt test w old p blank k ≡ getD old (place p blank k) 0
-  unfolding writtenAt _and_
-  written-blank p k = go (test p k)
-    where
-      go : (b : Bool) → (if b and false then fetch w p blank k else getD old (place p blank k) 0) ≡ getD old (place p blank k) 0
-      go true = refl
-      go false = refl
+  pub written-blank : (p part k : ℕ) → blank ≤ part → writtenAt test w old p part k ≡ getD old (place p part k) 0
+  unfolding writtenAt
+  written-blank p part k l = rw (le-ltb part blank l, and-false (test p k))
 
 -- the memory that bytes hold is fetched byte by byte
 pub fetch-bytes : (l : List ℕ) (p part k : ℕ) → part < blank → fetch (memoryOf l) p part k ≡ getD l (place p part k) 0
@@ -125,11 +121,8 @@ written-join first second both w u old agree inside outside =
         written-here second u (written first w old) p part k t l ∙ agree p part k a l t ∙ sym (written-here both w old p part k (inside p k t) l)
     here p part k a t false e =
         let l = ltb-false part blank e in
-        let i = a .part-low in
-        let q : part ≡ blank = omega arith in
-        subst (λ (x : ℕ). writtenAt second u (written first w old) p x k ≡ writtenAt both w old p x k) (sym q)
-        (written-blank second u (written first w old) p k ∙ written-at first w old (subst (λ (x : ℕ). Place p x k) q a)
-        ∙ written-blank first w old p k ∙ sym (written-blank both w old p k))
+        written-blank second u (written first w old) p part k l ∙ written-at first w old a
+        ∙ written-blank first w old p part k l ∙ sym (written-blank both w old p part k l)
 
     go : (p part k : ℕ) → Place p part k → (b : Bool) → second p k ≡ b
         → writtenAt second u (written first w old) p part k ≡ writtenAt both w old p part k
@@ -152,10 +145,7 @@ written-same test w u old agree =
         written-here test w old p part k t l ∙ agree p part k a l t ∙ sym (written-here test u old p part k t l)
     here p part k a t false e =
         let l = ltb-false part blank e in
-        let i = a .part-low in
-        let q : part ≡ blank = omega arith in
-        subst (λ (x : ℕ). writtenAt test w old p x k ≡ writtenAt test u old p x k) (sym q)
-        (written-blank test w old p k ∙ sym (written-blank test u old p k))
+        written-blank test w old p part k l ∙ sym (written-blank test u old p part k l)
 
     go : (p part k : ℕ) → Place p part k → (b : Bool) → test p k ≡ b → writtenAt test w old p part k ≡ writtenAt test u old p part k
     go p part k a true t = here p part k a t (ltb part blank) refl
@@ -168,7 +158,7 @@ written-bytes test w old h =
       size = written-length test w old;
       blanks = λ p l.
           written-at test w old (record { processor-low = l; part-low = omega arith; location-low = omega arith })
-          ∙ written-blank test w old p 0
+          ∙ written-blank test w old p blank 0 (omega arith)
           ∙ h .blanks p l;
     }
 

@@ -51,19 +51,6 @@ head-zeros n p c (suc (suc (suc (suc (suc (suc (suc (suc (suc zero))))))))) d0 d
 head-zeros n p c (suc (suc (suc (suc (suc (suc (suc (suc (suc (suc column)))))))))) d0 d1 d2 d3 d4 d7 h = absurd (omega arith)
 
 -- the program
-module _ (a : ℕ) where
-  pub line-is : lineIn (lineProcessor a) (lineSlot a) + lineColumn a ≡ a
-  line-is = omega arith
-
-  pub line-processor-low : lineProcessor a < slotLines
-  line-processor-low = omega arith
-
-  pub line-column-low : lineColumn a < lineStride
-  line-column-low = omega arith
-
-  pub line-slot-low : a < programLength → lineSlot a < 256
-  line-slot-low l = omega arith
-
 module _ (p i column : ℕ) (few : p < slotLines) (low : column < lineStride) where
   pub at-line-processor : lineProcessor (lineIn p i + column) ≡ p
   at-line-processor = omega arith

@@ -21,7 +21,10 @@ slotLines = 16
 abbrev pub slotStride : ℕ
 slotStride = lineStride * slotLines
 
--- where the numbers of a line stand in it: the pairs of the operands and of the send, and the sender. The signal is first.
+-- where the numbers of a line stand in it: the signal, the pairs of the operands and of the send, and the sender
+abbrev pub signalColumn : ℕ
+signalColumn = 0
+
 abbrev pub operandsColumn : ℕ
 operandsColumn = 2
 

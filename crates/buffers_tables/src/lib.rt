@@ -44,12 +44,14 @@ pub const PROCESSOR: usize = 8;
 
 pub const SLOT: usize = 9;
 
-// The bytes of a line, the lines of a slot, the bytes of these, and the columns of a line's numbers. The signal is first.
+// The bytes of a line, the lines of a slot, the bytes of these, and the columns of a line's numbers.
 pub const LINE_STRIDE: usize = 13;
 
 pub const SLOT_LINES: usize = 16;
 
 pub const SLOT_STRIDE: usize = 208;
+
+pub const SIGNAL: usize = 0;
 
 pub const OPERAND1: usize = 2;
 

@@ -14,7 +14,7 @@ use Rattle.logic.specs.Choice.{if_then_else_}
 use Rattle.model.specs.Network.{Network}
 use Rattle.model.specs.Module.{Module, Laid, localPresent, switchPresent, noSender, received}
 use Rattle.model.specs.Machine.{Memory, fetch, result, sent, stored, slot}
-use Rattle.buffers_memory.specs.Memory.{memoryLength, blank, place, memoryOf, writtenAt, written, within, here, withMemory}
+use Rattle.buffers_memory.specs.Memory.{memoryLength, processorParts, blank, place, memoryOf, writtenAt, written, within, here, withMemory}
 use Rattle.buffers_memory.proofs.Written.{Place, is-written, written-length, written-at, written-here, written-else, written-blank, fetch-bytes, stored-there, stored-else, Agree, written-join, written-kept, written-same}
 use Rattle.buffers_memory.proofs.Regions.{here-is, here-test, here-written}
 use Rattle.buffers_memory.proofs.Within.{within-true, is-within}
@@ -71,7 +71,7 @@ evaluated-some n m row w p i e = rw e
 
 -- the two stores of processor p
 module _ (m : Module) (i : ℕ) (results sents l : List ℕ) (size : length l ≡ memoryLength) (p : ℕ) (low : p < 16) (small : i < 256) where
-  at : (part : ℕ) → part < 5 → Place p part i
+  at : (part : ℕ) → part < processorParts → Place p part i
   at part h = record { processor-low = low; part-low = h; location-low = small }
 
   abbrev once : List ℕ
@@ -216,11 +216,7 @@ module _ (m : Module) (i : ℕ) (small : i < m .slots) (p part k : ℕ) where
           ∙ fetch-bytes l p part k h
       inside e false b =
           let h = ltb-false part blank b in
-          let low-part = a .part-low in
-          let is : part ≡ blank = omega arith in
-          ap (λ (y : ℕ). writtenAt (within (m .processors) (m .slots)) W l p y k) is
-          ∙ written-blank (within (m .processors) (m .slots)) W l p k
-          ∙ ap (λ (y : ℕ). getD l (place p y k) 0) (sym is)
+          written-blank (within (m .processors) (m .slots)) W l p part k h
 
       go : (b : Bool) → within (m .processors) (m .slots) p k ≡ b
           → writtenAt (within (m .processors) (m .slots)) W l p part k ≡ getD l (place p part k) 0

@@ -34,6 +34,7 @@ line-byte-spec =
     (λ c κs. search needs)
     (λ c. search needs)
     returns
+    (λ c. search needs)
     (λ c κs. search needs)
     (λ c. search needs)
     returns-2
