@@ -8,7 +8,7 @@ use native.Mathlib.Nat.{div-lt-iff-lt-mul, mod-lt}
 use Rattle.fields.specs.Field.{isFieldAt}
 use Rattle.model.specs.Netlist.{netSize}
 use Rattle.model.specs.ModuleFile.{modLine, modIndex, modField, moduleOf}
-use Rattle.file_mod_lines.proofs.Header.{field-of-line}
+use Rattle.file_lines.proofs.Fields.{field-of-line}
 use Rattle.file_mod_lines.proofs.Lines.{line-index}
 use Rattle.file_mod_table.specs.Line.{LinesLaid, LineOf}
 use Rattle.file_mod_table.proofs.Slots.{line-of, slot-laid}

@@ -7,9 +7,10 @@ ghost use lib.ListN.{length, getD};
 ghost use Rattle.model.specs.Network.{Network};
 ghost use Rattle.model.specs.Netlist.{netSize, network};
 ghost use Rattle.model.specs.Module.{placements};
-ghost use Rattle.model.specs.ModuleFile.{modField, modProcessors, modSlots, moduleOf, placed, modCheck};
+ghost use Rattle.model.specs.ModuleFile.{modField, moduleOf, placed, modCheck};
 ghost use Rattle.model.specs.Checked.{Checked};
-ghost use Rattle.file_mod_lines.specs.Answer.{Answers};
+ghost use Rattle.file_lines.specs.Answer.{Answers};
+ghost use Rattle.file_mod_lines.specs.Answer.{modRefusal, ModAnswers};
 ghost use Rattle.file_mod_table.specs.Line.{LinesLaid, LineOf};
 ghost use Rattle.file_mod.specs.Formed.{Formed};
 ghost use Rattle.file_mod.specs.Counting.{countedOnce};
@@ -49,7 +50,7 @@ fn count_signals(modfile: &[u8], processors: u16, slots: u16, counts: &mut [u16]
 // 22: the smallest signal that is not counted once.
 fn find_unplaced(counts: &[u16], signals: u16, processors: u16, slots: u16) -> ModAnswer
     requires { ⌜ signals < length (now counts) ⌝ }
-    ensures { λ r. ⌜ Answers processors slots (countedOnce signals (now (counts .entry))) r ⌝ }
+    ensures { λ r. ⌜ Answers modRefusal (ModAnswer.Accepted processors slots) (countedOnce signals (now (counts .entry))) r ⌝ }
 {
     let mut signal: u16 = 0;
     while signal < signals {
@@ -66,7 +67,7 @@ fn find_unplaced(counts: &[u16], signals: u16, processors: u16, slots: u16) -> M
 fn check_placements(modfile: &[u8], signals: u16, processors: u16, slots: u16) -> ModAnswer
     requires { ⌜ LinesLaid (now modfile) processors slots ⌝ }
     requires { ⌜ signals ≤ 4096 ⌝ }
-    ensures { λ r. ⌜ ((n : Network) → n .size ≡ signals → Answers processors slots (placed n (moduleOf (now (modfile .entry)))) r) ⌝ }
+    ensures { λ r. ⌜ ((n : Network) → n .size ≡ signals → ModAnswers (now (modfile .entry)) (placed n (moduleOf (now (modfile .entry)))) r) ⌝ }
 {
     let mut counts = [0u16; 4097];
     count_signals(modfile, processors, slots, &mut counts);
@@ -101,7 +102,7 @@ fn refused_at(test: Test, line: u16) -> ModAnswer
 // A test over all lines.
 fn check_each(test: Test, net: &[u8], modfile: &[u8], processors: u16, slots: u16) -> ModAnswer
     requires { ⌜ Formed (now net) (now modfile) processors slots ⌝ }
-    ensures { λ r. ⌜ Answers processors slots (testCheck test (network (now (net .entry))) (now (modfile .entry))) r ⌝ }
+    ensures { λ r. ⌜ ModAnswers (now (modfile .entry)) (testCheck test (network (now (net .entry))) (now (modfile .entry))) r ⌝ }
 {
     let lines = file_mod_lines::line_count(processors, slots);
     let mut k: usize = 0;
@@ -120,7 +121,7 @@ fn check_each(test: Test, net: &[u8], modfile: &[u8], processors: u16, slots: u1
 fn check_module(net: &[u8], modfile: &[u8], signals: u16, processors: u16, slots: u16) -> ModAnswer
     requires { ⌜ Formed (now net) (now modfile) processors slots ⌝ }
     requires { ⌜ signals ≡ netSize (now net) ⌝ }
-    ensures { λ r. ⌜ Answers processors slots (moduleCheck (network (now (net .entry))) (now (modfile .entry))) r ⌝ }
+    ensures { λ r. ⌜ ModAnswers (now (modfile .entry)) (moduleCheck (network (now (net .entry))) (now (modfile .entry))) r ⌝ }
 {
     let placements = check_placements(modfile, signals, processors, slots);
     let ModAnswer::Accepted(_, _) = placements else {
@@ -140,7 +141,7 @@ fn check_module(net: &[u8], modfile: &[u8], signals: u16, processors: u16, slots
 // MOD's check, NET being accepted: 20 and 21 by line, then 22, 24, 25 and 23.
 pub fn check_mod(net: &[u8], modfile: &[u8]) -> ModAnswer
     requires { ⌜ Checked (now net) ⌝ }
-    ensures { λ r. ⌜ Answers (modProcessors (now (modfile .entry))) (modSlots (now (modfile .entry))) (modCheck (network (now (net .entry))) (now (modfile .entry))) r ⌝ }
+    ensures { λ r. ⌜ ModAnswers (now (modfile .entry)) (modCheck (network (now (net .entry))) (now (modfile .entry))) r ⌝ }
 {
     let signals = fields::number_at(net, 6);
     let form = file_mod_lines::check_form(modfile, signals);

@@ -11,7 +11,7 @@ use Rattle.logic.proofs.Judged.{and-false, and-yes, or-no, or-yes, equal-goes-o
 use Rattle.fields.specs.Field.{isFieldAt}
 use Rattle.fields.specs.Line.{isLineAt}
 use Rattle.file_mod_lines.specs.Layout.{pairLaid}
-use Rattle.file_mod_lines.proofs.Header.{field-of-line}
+use Rattle.file_lines.proofs.Fields.{field-of-line}
 
 module _ (slots most part k : ℕ) where
   pub pair-far : slots ≤ k → pairLaid slots most part k ≡ false

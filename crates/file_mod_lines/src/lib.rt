@@ -5,15 +5,13 @@ use fields::Line;
 ghost use mathlib.Core.Path.{_≡_};
 ghost use mathlib.Core.Bool.{true};
 ghost use Prim.Native.Nat.{_+_, _*_, _/_, _%_, _<_, _≤_};
-ghost use lib.Dec.{eqb};
-ghost use Rattle.logic.specs.Test.{all};
 ghost use Rattle.fields.specs.Field.{isFieldAt};
 ghost use Rattle.fields.specs.Line.{isLineAt};
 ghost use Rattle.model.specs.Network.{Network};
-ghost use Rattle.model.specs.ModuleFile.{modProcessors, modSlots, modField, modHeader, modSlot, eachLine, modSurplus};
-ghost use Rattle.file_mod_lines.specs.Answer.{Answers, Sized};
+ghost use Rattle.model.specs.ModuleFile.{modHeader, modSlot, eachLine, modSurplus};
+ghost use Rattle.file_mod_lines.specs.Answer.{ModAnswers, Sized};
 ghost use Rattle.file_mod_lines.specs.Form.{formCheck};
-ghost use Rattle.file_mod_lines.specs.Layout.{sizesLaid, pairLaid, pairAt, operandsAt, lineAt};
+ghost use Rattle.file_mod_lines.specs.Layout.{headerLaid, pairLaid, pairAt, operandsAt, lineAt};
 
 // MOD accepted with P and C, or refused: with a line, and at 22 with a signal.
 pub enum ModAnswer {
@@ -26,52 +24,40 @@ pub enum ModAnswer {
     WrongOperand(u16),
 }
 
-// "twelve zeros": the rest of line 1.
-fn twelve_zeros(modfile: &[u8]) -> bool
+// "P (1 to 16), C (1 to 256), twelve zeros".
+fn header_laid(modfile: &[u8]) -> bool
     requires { ⌜ isLineAt (now modfile) 0 14 ≡ true ⌝ }
-    ensures { λ r. ⌜ r ≡ all 12 (λ k. eqb (modField (now (modfile .entry)) 0 (2 + k)) 0) ⌝ }
+    ensures { λ r. ⌜ r ≡ headerLaid (now (modfile .entry)) ⌝ }
 {
-    let mut k: usize = 0;
-    while k < 12 {
-        if fields::number_at(modfile, 12 + 6 * k) != 0 {
-            return false;
-        }
-        k += 1;
-    }
-    true
-}
-
-// "P (1 to 16), C (1 to 256)".
-fn sizes_right(p: u16, c: u16) -> bool
-    ensures { λ r. ⌜ r ≡ sizesLaid p c ⌝ }
-{
+    let p = fields::number_at(modfile, 0);
     if p < 1 {
         return false;
     }
     if 16 < p {
         return false;
     }
+    let c = fields::number_at(modfile, 6);
     if c < 1 {
         return false;
     }
-    c <= 256
+    if 256 < c {
+        return false;
+    }
+    fields::zeros_at(modfile, 12, 12)
 }
 
 // Line 1: 20, then 21.
 fn check_header(modfile: &[u8]) -> ModAnswer
-    ensures { λ r. ⌜ Answers (modProcessors (now (modfile .entry))) (modSlots (now (modfile .entry))) (modHeader (now (modfile .entry))) r ⌝ }
+    ensures { λ r. ⌜ ModAnswers (now (modfile .entry)) (modHeader (now (modfile .entry))) r ⌝ }
 {
     let Line::Next(_) = fields::read_line(modfile, 0, 14) else {
         return ModAnswer::Misformed(1);
     };
+    if !header_laid(modfile) {
+        return ModAnswer::Layout(1);
+    }
     let p = fields::number_at(modfile, 0);
     let c = fields::number_at(modfile, 6);
-    if !sizes_right(p, c) {
-        return ModAnswer::Layout(1);
-    }
-    if !twelve_zeros(modfile) {
-        return ModAnswer::Layout(1);
-    }
     ModAnswer::Accepted(p, c)
 }
 
@@ -178,31 +164,33 @@ pub fn line_place(processor: u16, slot: u16, slots: u16) -> usize
     85 * (1 + (processor as usize) * (slots as usize) + (slot as usize))
 }
 
-// The lines after the first, in their order: 20, then 21, with the first bad line.
+// The lines after the first, in their order: 20, then 21, and left at the first fault with its line.
 fn check_lines(modfile: &[u8], signals: u16, processors: u16, slots: u16) -> ModAnswer
     requires { ⌜ Sized (now modfile) processors slots ⌝ }
-    ensures { λ r. ⌜ ((n : Network) → n .size ≡ signals → Answers processors slots (eachLine (now (modfile .entry)) (modSlot n (now (modfile .entry)))) r) ⌝ }
+    ensures { λ r. ⌜ ((n : Network) → n .size ≡ signals → ModAnswers (now (modfile .entry)) (eachLine (now (modfile .entry)) (modSlot n (now (modfile .entry)))) r) ⌝ }
 {
     let lines = line_count(processors, slots);
     let mut answer = ModAnswer::Accepted(processors, slots);
     let mut k: usize = 0;
     'lines: while k < lines {
-        let at = 85 * (k + 1);
+        let line = 85 * (k + 1);
+        let mut at = line;
         let mut column: usize = 0;
         while column < 14 {
-            let Field::Number(_, _) = fields::read_field(modfile, at + 6 * column) else {
+            let Field::Number(_, next) = fields::read_field(modfile, at) else {
                 answer = ModAnswer::Misformed((k + 2) as u16);
                 break 'lines;
             };
+            at = next;
             column += 1;
         }
-        if !fields::ends_line(modfile, at + 84) {
+        if !fields::ends_line(modfile, at) {
             answer = ModAnswer::Misformed((k + 2) as u16);
             break 'lines;
         }
         let processor = processor_of(k, slots);
         let slot = slot_of(k, slots);
-        if !line_laid(modfile, at, processor, slot, signals, processors, slots) {
+        if !line_laid(modfile, line, processor, slot, signals, processors, slots) {
             answer = ModAnswer::Layout((k + 2) as u16);
             break 'lines;
         }
@@ -214,7 +202,7 @@ fn check_lines(modfile: &[u8], signals: u16, processors: u16, slots: u16) -> Mod
 // A line after the last: 20.
 fn check_surplus(modfile: &[u8], processors: u16, slots: u16) -> ModAnswer
     requires { ⌜ Sized (now modfile) processors slots ⌝ }
-    ensures { λ r. ⌜ Answers processors slots (modSurplus (now (modfile .entry))) r ⌝ }
+    ensures { λ r. ⌜ ModAnswers (now (modfile .entry)) (modSurplus (now (modfile .entry))) r ⌝ }
 {
     let lines = line_count(processors, slots);
     if 85 * (lines + 1) < modfile.len() {
@@ -225,7 +213,7 @@ fn check_surplus(modfile: &[u8], processors: u16, slots: u16) -> ModAnswer
 
 // The lines of MOD, N being given: 20 and 21 line by line, and 20 for a line after the last.
 pub fn check_form(modfile: &[u8], signals: u16) -> ModAnswer
-    ensures { λ r. ⌜ ((n : Network) → n .size ≡ signals → Answers (modProcessors (now (modfile .entry))) (modSlots (now (modfile .entry))) (formCheck n (now (modfile .entry))) r) ⌝ }
+    ensures { λ r. ⌜ ((n : Network) → n .size ≡ signals → ModAnswers (now (modfile .entry)) (formCheck n (now (modfile .entry))) r) ⌝ }
 {
     let header = check_header(modfile);
     let ModAnswer::Accepted(processors, slots) = header else {

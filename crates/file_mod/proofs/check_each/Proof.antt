@@ -6,7 +6,7 @@ use borrow.Author.Tests.{not-true, not-false}
 use Rattle.model.specs.Refusal.{pass, firstBelow}
 use Rattle.model.specs.Netlist.{network}
 use Rattle.file_mod.proofs.Numbered.{line-numbered, signal-numbered}
-use Rattle.file_mod.proofs.Testing.{lineTest, test-stops, test-goes-on, test-passes}
+use Rattle.file_mod.proofs.Testing.{lineTest, each-stops, each-goes-on, each-ends}
 use borrow.Author.Needs.{needs}
 use Rattle.file_mod.proofs.check_each.Statement.{statement}
 use Rattle.file_mod.proofs.check_each.Tie as tie
@@ -37,7 +37,7 @@ returns c =
     let count = line .before .before .before in
     let s = count .before .before .before in
     let here = rw (line .processor-of .ensures, judged .before .slot-of .ensures) at (judged .line-right .ensures) in
-    let tested = test-stops (s .args .test) (network (s .args .net .now)) (s .args .modfile .now) _ _ (s .pre .laid .sized) _ (loop .k) in
+    let tested = each-stops (s .args .test) (network (s .args .net .now)) (s .args .modfile .now) _ _ (s .pre .laid .sized) _ (loop .k) in
     rw (c .refused-at .ensures)
     (tested (count .line-count .ensures .0) (loop .inv .1) (line .before .loop-test .taken) _ here (not-true _ (c .before .if1 .taken)))
 
@@ -50,7 +50,7 @@ loop-again c =
     let s = count .before .before .before in
     let here = rw (line .processor-of .ensures, judged .before .slot-of .ensures) at (judged .line-right .ensures) in
     let low : loop .k + 1 ≤ count .line-count .result = omega arith in
-    let tested = test-goes-on (s .args .test) (network (s .args .net .now)) (s .args .modfile .now) _ _ (s .pre .laid .sized) _ (loop .k) in
+    let tested = each-goes-on (s .args .test) (network (s .args .net .now)) (s .args .modfile .now) _ _ (s .pre .laid .sized) _ (loop .k) in
     (low, tested (count .line-count .ensures .0) (loop .inv .1) _ here (not-false _ (c .if1 .left)))
 
 returns-2 : tie.Need-returns-2 Inv-loop μ-loop
@@ -58,7 +58,7 @@ returns-2 c =
     let loop = c .before .loop in
     let count = c .before .before in
     let s = count .before .before .before in
-    let tested = test-passes (s .args .test) (network (s .args .net .now)) (s .args .modfile .now) _ _ (s .pre .laid .sized) _ (loop .k) in
+    let tested = each-ends (s .args .test) (network (s .args .net .now)) (s .args .modfile .now) _ _ (s .pre .laid .sized) _ (loop .k) in
     tested (count .line-count .ensures .0) (loop .inv .1) (loop .inv .0) (c .loop-test .left)
 
 pub check-each-spec : {M : Type 1} → statement M

@@ -5,7 +5,7 @@ use mathlib.Core.Path.{sym, _∙_}
 use native.Mathlib.Omega.{arith}
 use Rattle.model.proofs.RightLine.{line-within}
 use Rattle.file_mod_lines.specs.Layout.{lineAt}
-use Rattle.file_mod_lines.proofs.Header.{field-of-line}
+use Rattle.file_lines.proofs.Fields.{field-of-line}
 use Rattle.logic.proofs.Judged.{chain-stops, chain-goes-on, equal-stops, equal-goes-on, most-stops}
 use Rattle.file_mod_lines.proofs.Judged.{pair-of-line, numbers-right}
 use borrow.Author.Needs.{needs}
