@@ -11,10 +11,10 @@ use Rattle.file_mod.proofs.find_unplaced.Statement.{statement}
 use Rattle.file_mod.proofs.find_unplaced.Tie as tie
 
 abbrev Inv-loop : tie.InvT-loop
-Inv-loop counts signals processors slots signal₀ signal = (signal ≤ signals) × (firstBelow signal (once counts) ≡ pass)
+Inv-loop counts signals shape signal₀ signal = (signal ≤ signals) × (firstBelow signal (once counts) ≡ pass)
 
 abbrev μ-loop : tie.MeasureT-loop
-μ-loop counts signals processors slots signal₀ signal = signals - signal
+μ-loop counts signals shape signal₀ signal = signals - signal
 
 loop-holds : tie.Need-loop-holds Inv-loop μ-loop
 unfolding firstBelow

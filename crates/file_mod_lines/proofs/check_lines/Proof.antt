@@ -19,18 +19,18 @@ use Rattle.file_mod_lines.proofs.check_lines.Statement.{statement}
 use Rattle.file_mod_lines.proofs.check_lines.Tie as tie
 
 abbrev Inv-loop : tie.InvT-loop
-Inv-loop modfile signals processors slots lines answer₀ k line at₀ column₀ answer at column =
+Inv-loop modfile signals shape lines answer₀ k line at₀ column₀ answer at column =
     (answer ≡ answer₀) × FieldsRight modfile line 14 column at
 
 abbrev μ-loop : tie.MeasureT-loop
-μ-loop modfile signals processors slots lines answer₀ k line at₀ column₀ answer at column = 14 - column
+μ-loop modfile signals shape lines answer₀ k line at₀ column₀ answer at column = 14 - column
 
 abbrev Inv-lines : tie.InvT-lines
-Inv-lines modfile signals processors slots lines answer₀ k₀ answer k =
-    (answer ≡ Accepted processors slots) × (k ≤ lines) × LinesPass signals modfile k
+Inv-lines modfile signals shape lines answer₀ k₀ answer k =
+    (answer ≡ Accepted (shape .processors) (shape .slots)) × (k ≤ lines) × LinesPass signals modfile k
 
 abbrev μ-lines : tie.MeasureT-lines
-μ-lines modfile signals processors slots lines answer₀ k₀ answer k = lines - k
+μ-lines modfile signals shape lines answer₀ k₀ answer k = lines - k
 
 lines-holds : tie.Need-lines-holds Inv-loop μ-loop Inv-lines μ-lines
 unfolding firstBelow
@@ -54,7 +54,7 @@ form c =
     fields-end (ended .before .before .loop .inv .1) (ended .before .loop-test .left) (ended .ends-line .ensures) ∙ not-false _ (c .if1 .left)
 
 line-laid-requires : tie.Need-line-laid-requires Inv-loop μ-loop Inv-lines μ-lines
-line-laid-requires c κs = form (c .before .before)
+line-laid-requires c κs = form (c .before)
 
 -- how many lines there are
 total : (c : tie.At-lines Inv-loop μ-loop Inv-lines μ-lines)
@@ -63,17 +63,18 @@ total c = c .before .line-count .ensures .0 ∙ line-total _ _ _ (c .before .bef
 
 -- what its layout was judged to be
 laid : (c : tie.After-line-laid Inv-loop μ-loop Inv-lines μ-lines)
-    → let line = c .before .before .before .before .before .before .before .before in
+    → let line = c .before .before .before .before .before .before .before in
     let a = line .before .before .before .args in
     let k = line .lines .k in
+    let slots = a .shape .slots in
     (n : Network) → n .size ≡ a .signals
-    → c .line-laid .result ≡ lineAt (a .modfile .now) (85 * (k + 1)) (k / a .slots) (k % a .slots) (n .size) (a .processors) (a .slots)
-laid c n e = rw (e, ← c .before .slot-of .ensures, ← c .before .before .processor-of .ensures) (c .line-laid .ensures)
+    → c .line-laid .result ≡ lineAt (a .modfile .now) (85 * (k + 1)) (k / slots) (k % slots) (n .size) (a .shape .processors) slots
+laid c n e = rw (e, ← c .before .place-of .ensures .0, ← c .before .place-of .ensures .1) (c .line-laid .ensures)
 
 lines-again : tie.Need-lines-again Inv-loop μ-loop Inv-lines μ-lines
 lines-again c =
     let judged = c .before in
-    let ended = judged .before .before .before in
+    let ended = judged .before .before in
     let fields = ended .before .before .before .loop .inv in
     let line = ended .before .before .before .before .before in
     let start = line .before .before .before in
@@ -115,7 +116,7 @@ returns-4 : tie.Need-returns-4 Inv-loop μ-loop Inv-lines μ-lines
 unfolding eachLine
 returns-4 c n e =
     let judged = c .before in
-    let ended = judged .before .before .before in
+    let ended = judged .before .before in
     let line = ended .before .before .before .before .before in
     let start = line .before .before .before in
     lines-stop _ _ (line .lines .inv .2 n e) _ (omega (arith, total line)) refl
@@ -145,7 +146,6 @@ check-lines-spec =
     (λ c κs. search needs)
     (λ c. search needs)
     (λ c. search needs)
-    (λ c κs. search needs)
     (λ c κs. search needs)
     line-laid-requires
     (λ c. search needs)
