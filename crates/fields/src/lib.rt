@@ -2,9 +2,10 @@
 
 ghost use mathlib.Core.Path.{_≡_};
 ghost use mathlib.Core.Bool.{true};
-ghost use Prim.Native.Nat.{_+_, _%_, _≤_};
+ghost use Prim.Native.Nat.{ℕ, _+_, _*_, _%_, _<_, _≤_};
 ghost use lib.Dec.{eqb};
 ghost use lib.ListN.{length, getD};
+ghost use Rattle.logic.specs.Test.{all};
 ghost use Rattle.fields.specs.Field.{isFieldAt, numberAt};
 ghost use Rattle.fields.specs.Line.{newline};
 ghost use Rattle.fields.specs.Reading.{readField, readLine};
@@ -163,4 +164,19 @@ pub fn number_at(s: &[u8], at: usize) -> u16
     ensures { λ r. ⌜ r ≡ numberAt (now (s .entry)) at ⌝ }
 {
     low_number(s, at) as u16
+}
+
+// "zeros": `count` fields from a place on, which were read before and are right, are 0.
+pub fn zeros_at(s: &[u8], at: usize, count: usize) -> bool
+    requires { ⌜ ((k : ℕ) → k < count → isFieldAt (now s) (at + 6 * k) ≡ true) ⌝ }
+    ensures { λ r. ⌜ r ≡ all count (λ k. eqb (numberAt (now (s .entry)) (at + 6 * k)) 0) ⌝ }
+{
+    let mut k: usize = 0;
+    while k < count {
+        if number_at(s, at + 6 * k) != 0 {
+            return false;
+        }
+        k += 1;
+    }
+    true
 }

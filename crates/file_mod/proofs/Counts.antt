@@ -16,11 +16,12 @@ use Rattle.logic.specs.Test.{one, total}
 use Rattle.model.specs.Module.{placements}
 use Rattle.model.specs.ModuleFile.{modField, modProcessors, modSlots, modIndex, moduleOf, placed}
 use Rattle.file_mod_lines.specs.Answer.{Sized}
-use Rattle.model.specs.Refusal.{Check, pass, fail, unless, firstBelow}
+use Rattle.model.specs.Refusal.{pass, fail, unless}
 use Rattle.model.specs.Network.{Network}
-use Rattle.file_mod.specs.Counting.{countedOnce}
-use Rattle.model.proofs.Refusals.{below-same}
-use Rattle.file_mod_lines.proofs.Lines.{line-index, line-total, below-stops, below-goes-on}
+use Rattle.file_mod.specs.Counting.{once, countedOnce}
+use Rattle.model.proofs.Refusals.{unless-pass, below-same}
+use Rattle.file_lines.proofs.Lines.{test-fails}
+use Rattle.file_mod_lines.proofs.Lines.{line-index, line-total}
 
 -- Sums
 
@@ -99,30 +100,21 @@ module _ (counts l : List ℕ) (k x : ℕ) (long : length counts ≡ 4097) (smal
           ap one (ne-eqb (modField l (k + 1) 2) s (λ (e : modField l (k + 1) 2 ≡ s). d (sym (is ∙ e)))) in
           omega (arith, more, before s low, getD-set-other counts x s (getD counts x 0 + 1) 0 d)
 
--- the smallest signal that is not counted once
-module _ (signals : ℕ) (counts : List ℕ) (k : ℕ) where
-  abbrev once : ℕ → Check
-  once j = unless (eqb (getD counts (suc j) 0) 1) 22 (suc j)
+-- signal k + 1
+module _ (counts : List ℕ) (k : ℕ) where
+  pub once-wrong : (getD counts (k + 1) 0 ≡ 1 → ⊥) → once counts k ≡ fail 22 (k + 1)
+  unfolding once
+  once-wrong d = rw add-one (test-fails _ 22 (suc k) (ne-eqb (getD counts (suc k) 0) 1 (rw add-one at d)))
 
-  pub once-stops : firstBelow k once ≡ pass → k < signals → (getD counts (k + 1) 0 ≡ 1 → ⊥) → countedOnce signals counts ≡ fail 22 (k + 1)
-  unfolding countedOnce unless
-  once-stops before low d =
-      let here : once k ≡ fail 22 (suc k) = rw (ne-eqb (getD counts (suc k) 0) 1 (rw add-one at d)) in
-      rw add-one (below-stops once k before signals low here)
-
-  pub once-goes-on : firstBelow k once ≡ pass → getD counts (k + 1) 0 ≡ 1 → firstBelow (k + 1) once ≡ pass
-  unfolding unless
-  once-goes-on before e = below-goes-on once k before (rw (eq-eqb (getD counts (suc k) 0) 1 (rw add-one at e)))
-
-  pub once-all : firstBelow k once ≡ pass → k ≤ signals → signals ≤ k → countedOnce signals counts ≡ pass
-  unfolding countedOnce
-  once-all before low high = let e : signals ≡ k = omega arith in rw e before
+  pub once-right : getD counts (k + 1) 0 ≡ 1 → once counts k ≡ pass
+  unfolding once
+  once-right e = unless-pass _ 22 (suc k) (eq-eqb (getD counts (suc k) 0) 1 (rw add-one at e))
 
 pub counted-placed : (signals : ℕ) (counts l : List ℕ) → signals ≤ 4096
     → ((s : ℕ) → s ≤ 4096 → getD counts s 0 ≡ placements (moduleOf l) s)
     → (n : Network) → n .size ≡ signals → countedOnce signals counts ≡ placed n (moduleOf l)
-unfolding countedOnce placed
+unfolding countedOnce once placed
 counted-placed signals counts l few is n e =
     rw e
-    (below-same signals (λ k. unless (eqb (getD counts (suc k) 0) 1) 22 (suc k))
+    (below-same signals (once counts)
     (λ k. unless (eqb (placements (moduleOf l) (suc k)) 1) 22 (suc k)) (λ k low. rw (is (suc k) (omega arith))))

@@ -1,20 +1,21 @@
 -- What right lines leave to the conditions that follow: their sizes, and signals of the network. The check of the lines and that of the
 -- conditions are the whole check.
 use Prim.Native.Nat.{ℕ, _≤_}
-use mathlib.Core.Path.{_≡_, sym, ap, subst, _∙_}
+use mathlib.Core.Path.{_≡_, refl, sym, ap, _∙_}
 use mathlib.Core.List.{List}
 use Rattle.fields.specs.Field.{numberAt}
-use Rattle.model.specs.Refusal.{Check, pass, first}
+use Rattle.model.specs.Refusal.{pass, first}
 use Rattle.model.specs.Network.{Network}
 use Rattle.model.specs.Netlist.{netSize, network}
 use Rattle.model.specs.ModuleFile.{modProcessors, modSlots, modHeader, modSlot, eachLine, modSurplus, modCheck}
 use Rattle.model.proofs.Refusals.{first-left, first-right, first-first}
 use Rattle.model.specs.Checked.{Checked}
 use Rattle.model.proofs.Checked.{checked-size}
+use Rattle.file_lines.proofs.Stages.{renamed}
 use Rattle.file_mod_lines.specs.declared.ModAnswer.{ModAnswer}
-use Rattle.file_mod_lines.specs.Answer.{Answers}
+use Rattle.file_mod_lines.specs.Answer.{ModAnswers}
 use Rattle.file_mod_lines.specs.Form.{formCheck}
-use Rattle.file_mod_lines.proofs.Stages.{header-sized}
+use Rattle.file_mod_lines.proofs.Accepted.{header-sized}
 use Rattle.file_mod.specs.Testing.{moduleCheck}
 use Rattle.file_mod_table.specs.Line.{LinesLaid}
 use Rattle.file_mod_table.proofs.Slots.{laid-slot}
@@ -44,11 +45,11 @@ pub net-signals : (net : List ℕ) (x : ℕ) → x ≡ numberAt net 6 → networ
 unfolding network
 net-signals net x e = sym e
 
-pub checked : (n : Network) (l : List ℕ) (p c : ℕ) (r : ModAnswer) → Answers p c (first (formCheck n l) (moduleCheck n l)) r
-    → Answers p c (modCheck n l) r
+pub checked : (n : Network) (l : List ℕ) (r : ModAnswer) → ModAnswers l (first (formCheck n l) (moduleCheck n l)) r
+    → ModAnswers l (modCheck n l) r
 unfolding modCheck
-checked n l p c r =
+checked n l r =
     let lines = eachLine l (modSlot n l) in
-    subst (λ (k : Check). Answers p c k r)
+    renamed refl
     (first-first (modHeader l) (first lines (modSurplus l)) (moduleCheck n l)
     ∙ ap (first (modHeader l)) (first-first lines (modSurplus l) (moduleCheck n l)))

@@ -1,14 +1,11 @@
 -- A right line by its number: line k after the first is that of processor k / C and slot k % C.
 use Prim.Native.Nat.{ℕ, _+_, _*_, _/_, _%_, _<_, _≤_}
 use mathlib.Core.Path.{_≡_, ap, _∙_}
-use mathlib.Core.Bool.{true}
 use mathlib.Core.List.{List}
 use native.Mathlib.Omega.{arith}
 use native.Mathlib.Nat.{div-lt-iff-lt-mul, mod-lt}
-use Rattle.fields.specs.Field.{isFieldAt}
 use Rattle.model.specs.Netlist.{netSize}
-use Rattle.model.specs.ModuleFile.{modLine, modIndex, modField, moduleOf}
-use Rattle.file_mod_lines.proofs.Header.{field-of-line}
+use Rattle.model.specs.ModuleFile.{modIndex, modField, moduleOf}
 use Rattle.file_mod_lines.proofs.Lines.{line-index}
 use Rattle.file_mod_table.specs.Line.{LinesLaid, LineOf}
 use Rattle.file_mod_table.proofs.Slots.{line-of, slot-laid}
@@ -27,11 +24,10 @@ module _ (l : List ℕ) (p c : ℕ) (laid : LinesLaid l p c) (k : ℕ) (low : k 
   index : modIndex l (k / c) (k % c) ≡ k + 1
   index = ap (λ (n : ℕ). modIndex l (k / n) (k % n)) (laid .sized .slots) ∙ line-index l k
 
-  -- the field that has its signal
-  pub signal-laid : isFieldAt l (85 * (k + 1) + 12) ≡ true
-  signal-laid =
-      field-of-line l (modLine (modIndex l (k / c) (k % c))) 14 (slot-laid l c (k / c) (k % c) line-numbered .line) 2 (85 * (k + 1) + 12)
-      (omega arith) (omega (arith, index))
+  -- its signal
+  pub signal-read : moduleOf l .signal (k / c) (k % c) ≡ modField l (k + 1) 2
+  unfolding moduleOf
+  signal-read = ap (λ (n : ℕ). modField l n 2) index
 
   pub signal-few : modField l (k + 1) 2 ≤ 4096
   unfolding moduleOf

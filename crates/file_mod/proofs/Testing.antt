@@ -9,13 +9,15 @@ use Rattle.model.specs.Refusal.{Check, fail, pass, first, unless, firstBelow}
 use Rattle.model.specs.Network.{Network}
 use Rattle.model.specs.Module.{operandRight}
 use Rattle.model.specs.ModuleFile.{modProcessors, modSlots, modIndex, moduleOf, eachLine, sending, receiving, operands}
-use Rattle.file_mod_lines.specs.Answer.{Answers, Sized}
+use Rattle.file_mod_lines.specs.Answer.{modRefusal, ModAnswers, Sized}
 use Rattle.file_mod.specs.Testing.{testRight, testAnswer, testCheck}
 use Rattle.file_mod_lines.specs.declared.ModAnswer.the-variants.{Accepted}
 use Rattle.file_mod.specs.declared.Test.{Test}
 use Rattle.file_mod.specs.declared.Test.the-variants.{Sends, Receptions, Operands}
-use Rattle.model.proofs.Refusals.{below-same}
-use Rattle.file_mod_lines.proofs.Lines.{line-index, line-total, below-stops, below-goes-on}
+use Rattle.model.proofs.Refusals.{unless-pass, below-same}
+use Rattle.file_lines.proofs.Stages.{renamed}
+use Rattle.file_lines.proofs.Lines.{test-fails, lines-go-on, lines-stop, lines-end}
+use Rattle.file_mod_lines.proofs.Lines.{line-index, line-total, same-sizes}
 
 -- a line's four operands, each refused alike
 four-tests : (test : ℕ → Bool) (number returned : ℕ) → firstBelow 4 (λ j. unless (test j) number returned) ≡ unless (all 4 test) number returned
@@ -53,10 +55,10 @@ by-line Operands n l =
     (lineTest Operands n l)
     (λ k h. four-tests (operandRight n (moduleOf l) (k / modSlots l) (k % modSlots l)) 23 (modIndex l (k / modSlots l) (k % modSlots l) + 1))
 
-refuses : (t : Test) (p c line : ℕ) (check : Check) → check ≡ fail (testNumber t) line → Answers p c check (testAnswer t line)
-refuses Sends p c line check e = record { refusal = sym e; sizes = tt }
-refuses Receptions p c line check e = record { refusal = sym e; sizes = tt }
-refuses Operands p c line check e = record { refusal = sym e; sizes = tt }
+refuses : (t : Test) (line : ℕ) → modRefusal (testAnswer t line) ≡ fail (testNumber t) line
+refuses Sends line = refl
+refuses Receptions line = refl
+refuses Operands line = refl
 
 -- the lines before line k pass
 module _ (t : Test) (n : Network) (l : List ℕ) (p c : ℕ) (sized : Sized l p c) (lines k : ℕ) (total : lines ≡ p * c)
@@ -64,21 +66,20 @@ module _ (t : Test) (n : Network) (l : List ℕ) (p c : ℕ) (sized : Sized l p 
   here : (r : Bool) → r ≡ testRight t n (moduleOf l) (k / c) (k % c) → testRight t n (moduleOf l) (k / modSlots l) (k % modSlots l) ≡ r
   here r e = sym (e ∙ ap (λ (x : ℕ). testRight t n (moduleOf l) (k / x) (k % x)) (sized .slots))
 
-  pub test-stops : k < lines → (r : Bool) → r ≡ testRight t n (moduleOf l) (k / c) (k % c) → r ≡ false
-      → Answers p c (testCheck t n l) (testAnswer t (k + 2))
-  unfolding unless
-  test-stops low r e f =
-      let at : k + 1 + 1 ≡ k + 2 = omega arith in
-      let fails : lineTest t n l k ≡ fail (testNumber t) (k + 2) = rw (here r e ∙ f, line-index l k) (ap (fail (testNumber t)) at) in
-      refuses t p c (k + 2) (testCheck t n l)
-      (by-line t n l
-      ∙ below-stops (lineTest t n l) k before (modProcessors l * modSlots l) (omega (arith, line-total l p c sized)) fails)
+  all-lines : lines ≡ modProcessors l * modSlots l
+  all-lines = total ∙ line-total l p c sized
 
-  pub test-goes-on : (r : Bool) → r ≡ testRight t n (moduleOf l) (k / c) (k % c) → r ≡ true → firstBelow (k + 1) (lineTest t n l) ≡ pass
-  unfolding unless
-  test-goes-on r e f = below-goes-on (lineTest t n l) k before (rw (here r e ∙ f))
+  pub each-stops : k < lines → (r : Bool) → r ≡ testRight t n (moduleOf l) (k / c) (k % c) → r ≡ false
+      → ModAnswers l (testCheck t n l) (testAnswer t (k + 2))
+  each-stops low r e f =
+      let at : modIndex l (k / modSlots l) (k % modSlots l) + 1 ≡ k + 2 = omega (arith, line-index l k) in
+      let fails : lineTest t n l k ≡ fail (testNumber t) (k + 2) = test-fails _ (testNumber t) _ (here r e ∙ f) ∙ ap (fail (testNumber t)) at in
+      renamed refl (sym (by-line t n l)) (lines-stop (lineTest t n l) k before _ (omega (arith, all-lines)) (refuses t (k + 2)) fails)
 
-  pub test-passes : k ≤ lines → lines ≤ k → Answers p c (testCheck t n l) (Accepted p c)
-  test-passes low high =
-      let e : k ≡ modProcessors l * modSlots l = omega (arith, line-total l p c sized) in
-      record { refusal = sym (by-line t n l ∙ (rw (← e) before)); sizes = (refl, refl) }
+  pub each-goes-on : (r : Bool) → r ≡ testRight t n (moduleOf l) (k / c) (k % c) → r ≡ true → firstBelow (k + 1) (lineTest t n l) ≡ pass
+  each-goes-on r e f = lines-go-on (lineTest t n l) k before (unless-pass _ (testNumber t) _ (here r e ∙ f))
+
+  pub each-ends : k ≤ lines → lines ≤ k → ModAnswers l (testCheck t n l) (Accepted p c)
+  each-ends low high =
+      renamed refl (sym (by-line t n l))
+      (lines-end (lineTest t n l) k before _ (omega (arith, all-lines)) (omega (arith, all-lines)) (same-sizes (sized .processors) (sized .slots)) refl)

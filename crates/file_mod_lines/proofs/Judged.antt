@@ -1,17 +1,17 @@
 -- What the code's judgement of a line's layout answers, case by case.
 use Prim.Native.Nat.{ℕ, _+_, _*_, _<_, _≤_}
-use mathlib.Core.Path.{_≡_, refl, _∙_}
-use mathlib.Core.Bool.{Bool, true, false, not}
+use mathlib.Core.Path.{_≡_, refl}
+use mathlib.Core.Bool.{true, false, not}
 use mathlib.Core.List.{List}
 use native.Mathlib.Omega.{arith}
 use lib.Dec.{eqb, leb, ltb}
 use borrow.Author.Tests.{eq-eqb, ne-eqb, lt-ltb, le-ltb}
 use Rattle.logic.specs.Test.{_and_, _or_}
-use Rattle.logic.proofs.Judged.{and-false, and-yes, or-no, or-yes, equal-goes-on, most-goes-on}
+use Rattle.logic.proofs.Judged.{and-false, and-yes, or-no, or-yes}
 use Rattle.fields.specs.Field.{isFieldAt}
 use Rattle.fields.specs.Line.{isLineAt}
 use Rattle.file_mod_lines.specs.Layout.{pairLaid}
-use Rattle.file_mod_lines.proofs.Header.{field-of-line}
+use Rattle.file_lines.proofs.Fields.{field-of-line}
 
 module _ (slots most part k : ℕ) where
   pub pair-far : slots ≤ k → pairLaid slots most part k ≡ false
@@ -33,9 +33,3 @@ pub pair-of-line : (l : List ℕ) (at : ℕ) → isLineAt l at 14 ≡ true → (
     → (isFieldAt l place ≡ true) × (isFieldAt l (place + 6) ≡ true)
 pair-of-line l at right k place low e =
     (field-of-line l at 14 right k place (omega arith) e, field-of-line l at 14 right (k + 1) (place + 6) low (omega arith))
-
--- the first three numbers of a line, x, y and z as they are read, are right
-pub numbers-right : (x y z a b n processor slot signals : ℕ) (rest : Bool) → x ≡ a → x ≡ processor → y ≡ b → y ≡ slot → z ≡ n → z ≤ signals
-    → eqb a processor and eqb b slot and leb n signals and rest ≡ rest
-numbers-right x y z a b n processor slot signals rest is-x e is-y f is-z g =
-    equal-goes-on x a processor _ is-x e ∙ equal-goes-on y b slot _ is-y f ∙ most-goes-on z n signals rest is-z g

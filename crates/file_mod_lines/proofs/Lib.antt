@@ -1,5 +1,3 @@
-pub mod Header
 pub mod Judged
 pub mod Lines
-pub mod Told
-pub mod Stages
+pub mod Accepted

@@ -4,6 +4,7 @@ use mathlib.Core.Path.{_≡_}
 use mathlib.Core.List.{List}
 use Rattle.model.specs.Refusal.{Check, pass, fail}
 use Rattle.model.specs.ModuleFile.{modProcessors, modSlots}
+use Rattle.file_lines.specs.Answer.{Answers}
 use Rattle.file_mod_lines.specs.declared.ModAnswer.{ModAnswer}
 use Rattle.file_mod_lines.specs.declared.ModAnswer.the-variants.{Accepted, Misformed, Layout, Placement, Send, Reception, WrongOperand}
 
@@ -17,20 +18,9 @@ modRefusal (Send line) = fail 24 line
 modRefusal (Reception line) = fail 25 line
 modRefusal (WrongOperand line) = fail 23 line
 
--- an answer that accepts has these sizes
-abbrev pub hasSizes : ℕ → ℕ → ModAnswer → Type 0
-hasSizes p c (Accepted x y) = (x ≡ p) × (y ≡ c)
-hasSizes p c (Misformed line) = Unit
-hasSizes p c (Layout line) = Unit
-hasSizes p c (Placement signal) = Unit
-hasSizes p c (Send line) = Unit
-hasSizes p c (Reception line) = Unit
-hasSizes p c (WrongOperand line) = Unit
-
--- r answers a check of a table with the sizes p and c: it refuses as the check does, and where it accepts, it gives the sizes
-pub record Answers (p c : ℕ) (check : Check) (r : ModAnswer) : Type 0 where
-  pub refusal : modRefusal r ≡ check
-  pub sizes : hasSizes p c r
+-- r answers a check of MOD; where it accepts, it gives P and C
+abbrev pub ModAnswers : List ℕ → Check → ModAnswer → Type 0
+ModAnswers modfile check r = Answers modRefusal (Accepted (modProcessors modfile) (modSlots modfile)) check r
 
 -- p and c are the sizes that line 1 gives, and are in their ranges
 pub record Sized (modfile : List ℕ) (p c : ℕ) : Type 0 where

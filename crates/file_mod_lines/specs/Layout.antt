@@ -7,11 +7,15 @@ use lib.Dec.{eqb, leb, ltb}
 use Rattle.logic.specs.Test.{_and_, _or_, all}
 use Rattle.fields.specs.Field.{numberAt}
 use Rattle.model.specs.Module.{localPresent, switchPresent, noPart}
+use Rattle.model.specs.ModuleFile.{modField, modProcessors, modSlots}
 use Rattle.instruction.specs.Sender.{senderLaid}
 
--- "P (1 to 16), C (1 to 256)"
-unfoldable pub sizesLaid : ℕ → ℕ → Bool
-sizesLaid p c = leb 1 p and leb p 16 and leb 1 c and leb c 256
+-- "P (1 to 16), C (1 to 256), twelve zeros"
+abbrev pub headerLaid : List ℕ → Bool
+headerLaid modfile =
+    (leb 1 (modProcessors modfile) and leb (modProcessors modfile) 16)
+    and (leb 1 (modSlots modfile) and leb (modSlots modfile) 256)
+    and all 12 (λ k. eqb (modField modfile 0 (2 + k)) 0)
 
 -- a pair, its part being most at most
 unfoldable pub pairLaid : ℕ → ℕ → ℕ → ℕ → Bool

@@ -1,19 +1,18 @@
 // The lines of MOD (01, Files and Refusals): 20 and 21, line by line.
 
+use clock::Slot;
 use fields::Field;
 use fields::Line;
 ghost use mathlib.Core.Path.{_≡_};
 ghost use mathlib.Core.Bool.{true};
 ghost use Prim.Native.Nat.{_+_, _*_, _/_, _%_, _<_, _≤_};
-ghost use lib.Dec.{eqb};
-ghost use Rattle.logic.specs.Test.{all};
 ghost use Rattle.fields.specs.Field.{isFieldAt};
 ghost use Rattle.fields.specs.Line.{isLineAt};
 ghost use Rattle.model.specs.Network.{Network};
-ghost use Rattle.model.specs.ModuleFile.{modProcessors, modSlots, modField, modHeader, modSlot, eachLine, modSurplus};
-ghost use Rattle.file_mod_lines.specs.Answer.{Answers, Sized};
+ghost use Rattle.model.specs.ModuleFile.{modHeader, modSlot, eachLine, modSurplus};
+ghost use Rattle.file_mod_lines.specs.Answer.{ModAnswers, Sized};
 ghost use Rattle.file_mod_lines.specs.Form.{formCheck};
-ghost use Rattle.file_mod_lines.specs.Layout.{sizesLaid, pairLaid, pairAt, operandsAt, lineAt};
+ghost use Rattle.file_mod_lines.specs.Layout.{headerLaid, pairLaid, pairAt, operandsAt, lineAt};
 
 // MOD accepted with P and C, or refused: with a line, and at 22 with a signal.
 pub enum ModAnswer {
@@ -26,52 +25,52 @@ pub enum ModAnswer {
     WrongOperand(u16),
 }
 
-// "twelve zeros": the rest of line 1.
-fn twelve_zeros(modfile: &[u8]) -> bool
-    requires { ⌜ isLineAt (now modfile) 0 14 ≡ true ⌝ }
-    ensures { λ r. ⌜ r ≡ all 12 (λ k. eqb (modField (now (modfile .entry)) 0 (2 + k)) 0) ⌝ }
-{
-    let mut k: usize = 0;
-    while k < 12 {
-        if fields::number_at(modfile, 12 + 6 * k) != 0 {
-            return false;
-        }
-        k += 1;
-    }
-    true
+// P and C, which line 1 gives.
+pub struct Shape {
+    pub processors: u16,
+    pub slots: u16,
 }
 
-// "P (1 to 16), C (1 to 256)".
-fn sizes_right(p: u16, c: u16) -> bool
-    ensures { λ r. ⌜ r ≡ sizesLaid p c ⌝ }
+// The processor and the slot that a line after the first stands for.
+pub struct Place {
+    pub processor: u16,
+    pub slot: Slot,
+}
+
+// "P (1 to 16), C (1 to 256), twelve zeros".
+fn header_laid(modfile: &[u8]) -> bool
+    requires { ⌜ isLineAt (now modfile) 0 14 ≡ true ⌝ }
+    ensures { λ r. ⌜ r ≡ headerLaid (now (modfile .entry)) ⌝ }
 {
+    let p = fields::number_at(modfile, 0);
     if p < 1 {
         return false;
     }
     if 16 < p {
         return false;
     }
+    let c = fields::number_at(modfile, 6);
     if c < 1 {
         return false;
     }
-    c <= 256
+    if 256 < c {
+        return false;
+    }
+    fields::zeros_at(modfile, 12, 12)
 }
 
 // Line 1: 20, then 21.
 fn check_header(modfile: &[u8]) -> ModAnswer
-    ensures { λ r. ⌜ Answers (modProcessors (now (modfile .entry))) (modSlots (now (modfile .entry))) (modHeader (now (modfile .entry))) r ⌝ }
+    ensures { λ r. ⌜ ModAnswers (now (modfile .entry)) (modHeader (now (modfile .entry))) r ⌝ }
 {
     let Line::Next(_) = fields::read_line(modfile, 0, 14) else {
         return ModAnswer::Misformed(1);
     };
+    if !header_laid(modfile) {
+        return ModAnswer::Layout(1);
+    }
     let p = fields::number_at(modfile, 0);
     let c = fields::number_at(modfile, 6);
-    if !sizes_right(p, c) {
-        return ModAnswer::Layout(1);
-    }
-    if !twelve_zeros(modfile) {
-        return ModAnswer::Layout(1);
-    }
     ModAnswer::Accepted(p, c)
 }
 
@@ -116,58 +115,47 @@ fn operands_laid(modfile: &[u8], at: usize, slots: u16) -> bool
     true
 }
 
-// The line at a place has the layout of the given processor and slot, N, P and C being given.
-fn line_laid(
-    modfile: &[u8],
-    at: usize,
-    processor: u16,
-    slot: u16,
-    signals: u16,
-    processors: u16,
-    slots: u16,
-) -> bool
+// The line at an offset has the layout of its place, N, P and C being given.
+fn line_laid(modfile: &[u8], at: usize, place: Place, signals: u16, shape: Shape) -> bool
     requires { ⌜ isLineAt (now modfile) at 14 ≡ true ⌝ }
-    ensures { λ r. ⌜ r ≡ lineAt (now (modfile .entry)) at processor slot signals processors slots ⌝ }
+    ensures { λ r. ⌜ r ≡ lineAt (now (modfile .entry)) at (place .processor) (place .slot .0) signals (shape .processors) (shape .slots) ⌝ }
 {
-    if fields::number_at(modfile, at) != processor {
+    if fields::number_at(modfile, at) != place.processor {
         return false;
     }
-    if fields::number_at(modfile, at + 6) != slot {
+    if fields::number_at(modfile, at + 6) != place.slot.0 {
         return false;
     }
     if signals < fields::number_at(modfile, at + 12) {
         return false;
     }
-    if !operands_laid(modfile, at, slots) {
+    if !operands_laid(modfile, at, shape.slots) {
         return false;
     }
-    if !pair_laid(modfile, at + 66, 1, slots) {
+    if !pair_laid(modfile, at + 66, 1, shape.slots) {
         return false;
     }
-    instruction::sender_right(fields::number_at(modfile, at + 78), processors)
+    instruction::sender_right(fields::number_at(modfile, at + 78), shape.processors)
 }
 
 // P × C.
-pub fn line_count(processors: u16, slots: u16) -> usize
-    requires { ⌜ (processors ≤ 16) × (slots ≤ 256) ⌝ }
-    ensures { λ r. ⌜ (r ≡ processors * slots) × (r ≤ 4096) ⌝ }
+pub fn line_count(shape: Shape) -> usize
+    requires { ⌜ (shape .processors ≤ 16) × (shape .slots ≤ 256) ⌝ }
+    ensures { λ r. ⌜ (r ≡ shape .processors * shape .slots) × (r ≤ 4096) ⌝ }
 {
-    (processors as usize) * (slots as usize)
+    (shape.processors as usize) * (shape.slots as usize)
 }
 
-// "by processor (0 to P-1), within it by slot (0 to C-1)": the processor and the slot of the line k after the first.
-pub fn processor_of(k: usize, slots: u16) -> u16
-    requires { ⌜ (k < 4096) × (1 ≤ slots) ⌝ }
-    ensures { λ r. ⌜ r ≡ k / slots ⌝ }
+// "by processor (0 to P-1), within it by slot (0 to C-1)": the place of the line k after the first.
+pub fn place_of(k: usize, shape: Shape) -> Place
+    requires { ⌜ (k < 4096) × (1 ≤ shape .slots) ⌝ }
+    ensures { λ r. ⌜ (r .processor ≡ k / shape .slots) × (r .slot .0 ≡ k % shape .slots) ⌝ }
 {
-    (k / (slots as usize)) as u16
-}
-
-pub fn slot_of(k: usize, slots: u16) -> u16
-    requires { ⌜ (k < 4096) × (1 ≤ slots) ⌝ }
-    ensures { λ r. ⌜ r ≡ k % slots ⌝ }
-{
-    (k % (slots as usize)) as u16
+    let slots = shape.slots as usize;
+    Place {
+        processor: (k / slots) as u16,
+        slot: Slot((k % slots) as u16),
+    }
 }
 
 // Where the line of a processor and a slot stands in MOD.
@@ -178,31 +166,39 @@ pub fn line_place(processor: u16, slot: u16, slots: u16) -> usize
     85 * (1 + (processor as usize) * (slots as usize) + (slot as usize))
 }
 
-// The lines after the first, in their order: 20, then 21, with the first bad line.
-fn check_lines(modfile: &[u8], signals: u16, processors: u16, slots: u16) -> ModAnswer
-    requires { ⌜ Sized (now modfile) processors slots ⌝ }
-    ensures { λ r. ⌜ ((n : Network) → n .size ≡ signals → Answers processors slots (eachLine (now (modfile .entry)) (modSlot n (now (modfile .entry)))) r) ⌝ }
+// The same of a place.
+pub fn line_at(place: Place, shape: Shape) -> usize
+    requires { ⌜ (place .processor < 16) × (place .slot .0 < 256) × (shape .slots ≤ 256) ⌝ }
+    ensures { λ r. ⌜ (r ≡ 85 * (1 + place .processor * shape .slots + place .slot .0)) × (r ≤ 348160) ⌝ }
 {
-    let lines = line_count(processors, slots);
-    let mut answer = ModAnswer::Accepted(processors, slots);
+    line_place(place.processor, place.slot.0, shape.slots)
+}
+
+// The lines after the first, in their order: 20, then 21, and left at the first fault with its line.
+fn check_lines(modfile: &[u8], signals: u16, shape: Shape) -> ModAnswer
+    requires { ⌜ Sized (now modfile) (shape .processors) (shape .slots) ⌝ }
+    ensures { λ r. ⌜ ((n : Network) → n .size ≡ signals → ModAnswers (now (modfile .entry)) (eachLine (now (modfile .entry)) (modSlot n (now (modfile .entry)))) r) ⌝ }
+{
+    let lines = line_count(shape);
+    let mut answer = ModAnswer::Accepted(shape.processors, shape.slots);
     let mut k: usize = 0;
     'lines: while k < lines {
-        let at = 85 * (k + 1);
+        let line = 85 * (k + 1);
+        let mut at = line;
         let mut column: usize = 0;
         while column < 14 {
-            let Field::Number(_, _) = fields::read_field(modfile, at + 6 * column) else {
+            let Field::Number(_, next) = fields::read_field(modfile, at) else {
                 answer = ModAnswer::Misformed((k + 2) as u16);
                 break 'lines;
             };
+            at = next;
             column += 1;
         }
-        if !fields::ends_line(modfile, at + 84) {
+        if !fields::ends_line(modfile, at) {
             answer = ModAnswer::Misformed((k + 2) as u16);
             break 'lines;
         }
-        let processor = processor_of(k, slots);
-        let slot = slot_of(k, slots);
-        if !line_laid(modfile, at, processor, slot, signals, processors, slots) {
+        if !line_laid(modfile, line, place_of(k, shape), signals, shape) {
             answer = ModAnswer::Layout((k + 2) as u16);
             break 'lines;
         }
@@ -212,28 +208,29 @@ fn check_lines(modfile: &[u8], signals: u16, processors: u16, slots: u16) -> Mod
 }
 
 // A line after the last: 20.
-fn check_surplus(modfile: &[u8], processors: u16, slots: u16) -> ModAnswer
-    requires { ⌜ Sized (now modfile) processors slots ⌝ }
-    ensures { λ r. ⌜ Answers processors slots (modSurplus (now (modfile .entry))) r ⌝ }
+fn check_surplus(modfile: &[u8], shape: Shape) -> ModAnswer
+    requires { ⌜ Sized (now modfile) (shape .processors) (shape .slots) ⌝ }
+    ensures { λ r. ⌜ ModAnswers (now (modfile .entry)) (modSurplus (now (modfile .entry))) r ⌝ }
 {
-    let lines = line_count(processors, slots);
+    let lines = line_count(shape);
     if 85 * (lines + 1) < modfile.len() {
         return ModAnswer::Misformed((lines + 2) as u16);
     }
-    ModAnswer::Accepted(processors, slots)
+    ModAnswer::Accepted(shape.processors, shape.slots)
 }
 
 // The lines of MOD, N being given: 20 and 21 line by line, and 20 for a line after the last.
 pub fn check_form(modfile: &[u8], signals: u16) -> ModAnswer
-    ensures { λ r. ⌜ ((n : Network) → n .size ≡ signals → Answers (modProcessors (now (modfile .entry))) (modSlots (now (modfile .entry))) (formCheck n (now (modfile .entry))) r) ⌝ }
+    ensures { λ r. ⌜ ((n : Network) → n .size ≡ signals → ModAnswers (now (modfile .entry)) (formCheck n (now (modfile .entry))) r) ⌝ }
 {
     let header = check_header(modfile);
     let ModAnswer::Accepted(processors, slots) = header else {
         return header;
     };
-    let lines = check_lines(modfile, signals, processors, slots);
+    let shape = Shape { processors, slots };
+    let lines = check_lines(modfile, signals, shape);
     let ModAnswer::Accepted(_, _) = lines else {
         return lines;
     };
-    check_surplus(modfile, processors, slots)
+    check_surplus(modfile, shape)
 }

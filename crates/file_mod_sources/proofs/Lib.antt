@@ -1,4 +1,3 @@
 pub mod Sends
 pub mod Operands
-pub mod Four
 pub mod Told

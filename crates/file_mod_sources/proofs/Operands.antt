@@ -1,5 +1,5 @@
 -- 23, part by part: what each part wants of the location that it names, and what is wanted of a line's operand.
-use Prim.Native.Nat.{ℕ, _+_, _*_, _<_, _≤_}
+use Prim.Native.Nat.{ℕ, zero, suc, _+_, _*_, _<_, _≤_}
 use mathlib.Core.Path.{_≡_, refl, sym, ap, _∙_}
 use mathlib.Core.Bool.{Bool, false}
 use mathlib.Core.List.{List}
@@ -24,7 +24,7 @@ use Rattle.instruction.proofs.Pairs.{part-of-pair, location-of-pair}
 use Rattle.file_mod_table.specs.Line.{LineOf}
 use Rattle.file_mod_table.proofs.Slots.{slot-laid, operand-low, line-beside}
 use Rattle.file_mod_sources.specs.Asked.{OperandOf}
-use Rattle.file_mod_sources.specs.Mirror.{sentRight, wantedSend}
+use Rattle.file_mod_sources.specs.Mirror.{sentRight, wantedSend, nthOperand}
 
 module _ (m : Module) (p i k kind s : ℕ) where
   pub reads-local-earlier : reads m p i localEarlier k kind s ≡ eqb kind unitDelay and eqb (m .signal p k) s
@@ -58,11 +58,19 @@ none-apart None d = absurd (d refl)
 pub line-named : (l : List ℕ) (c q : ℕ) (a : Operand) (k : ℕ) → LineOf l c q (locationOf a) → locationOf a ≡ k → LineOf l c q k
 line-named l c q a k line e = line-beside l c q (locationOf a) line k (omega (arith, line .slot, e))
 
+nth-named : (m : Module) (p i j : ℕ) → j < 4 → nthOperand (instructionOf m p i) j ≡ operandNamed m p i j
+nth-named m p i zero low = refl
+nth-named m p i (suc zero) low = refl
+nth-named m p i (suc (suc zero)) low = refl
+nth-named m p i (suc (suc (suc zero))) low = refl
+nth-named m p i (suc (suc (suc (suc j)))) low = absurd (omega arith)
+
 -- the operands of a line that was read as an instruction
 pub operand-of : (net l : List ℕ) (c p i : ℕ) → LineOf l c p i → Checked net → moduleOf l .signal p i ≤ netSize net
-    → (r : Instruction) → r ≡ instructionOf (moduleOf l) p i → (j : ℕ) → j < 4 → (a : Operand) → a ≡ operandNamed (moduleOf l) p i j
+    → (r : Instruction) → r ≡ instructionOf (moduleOf l) p i → (j : ℕ) → j < 4 → (a : Operand) → a ≡ nthOperand r j
     → OperandOf net l c p i (r .signal) j a
-operand-of net l c p i line checked within r e j low a named =
+operand-of net l c p i line checked within r e j low a is =
+    let named = is ∙ ap (λ (x : Instruction). nthOperand x j) e ∙ nth-named (moduleOf l) p i j low in
     let placed : r .signal ≡ moduleOf l .signal p i = ap (λ (x : Instruction). x .signal) e in
     record { line = line; checked = checked; placed = placed; within = omega arith; low = low; named = named }
 

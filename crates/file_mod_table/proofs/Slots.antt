@@ -12,7 +12,7 @@ use Rattle.model.specs.ModuleFile.{modLine, modField, modProcessors, modIndex, 
 use Rattle.model.proofs.Accepted.{SlotRight, slot-right, at-pass}
 use Rattle.instruction.specs.Instruction.{operandNamed, sendNamed, instructionOf}
 use Rattle.instruction.specs.declared.Operand.{Operand}
-use Rattle.file_mod_lines.proofs.Header.{field-of-line}
+use Rattle.file_lines.proofs.Fields.{field-of-line}
 use Rattle.file_mod_table.specs.Line.{LinesLaid, LineOf}
 
 pub line-of : (l : List ℕ) (p c q i : ℕ) → LinesLaid l p c → q < p → i < c → LineOf l c q i

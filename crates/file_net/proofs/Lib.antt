@@ -1,3 +1,2 @@
-pub mod Faults
-pub mod Header
-pub mod Joined
+pub mod Lines
+pub mod Accepted

@@ -10,6 +10,7 @@ ghost use Rattle.fields.specs.Line.{isLineAt};
 ghost use Rattle.model.specs.Netlist.{netField, netSize, tenZeros, inputLayout, gateLayout, sourceRight, sourcesRight};
 ghost use Rattle.file_net_line.specs.Layout.{signalLayout};
 use fields::number_at;
+use fields::zeros_at;
 use gates::is_constant;
 use gates::is_function;
 use gates::is_translation;
@@ -27,14 +28,7 @@ pub fn ten_zeros(net: &[u8], line: usize) -> bool
     requires { ⌜ (line ≤ 4096) × (isLineAt (now net) (73 * line) 12 ≡ true) ⌝ }
     ensures { λ r. ⌜ r ≡ tenZeros (now (net .entry)) line ⌝ }
 {
-    let mut k: usize = 0;
-    while k < 10 {
-        if field(net, line, 2 + k) != 0 {
-            return false;
-        }
-        k += 1;
-    }
-    true
+    zeros_at(net, 73 * line + 12, 10)
 }
 
 // An input: kind 1, and ten zeros.

@@ -1,6 +1,6 @@
 -- STIM line by line. In an accepted STIM every line up to the end line can be read, the lines before it give values, and it gives T.
 use Prim.Native.Nat.{ℕ, _+_, _*_, _<_, _≤_}
-use mathlib.Core.Path.{_≡_, refl, sym}
+use mathlib.Core.Path.{_≡_, sym, _∙_, ap}
 use mathlib.Core.Bool.{true, false}
 use mathlib.Core.List.{List}
 use native.Mathlib.Omega.{arith}
@@ -10,17 +10,15 @@ use Rattle.fields.specs.Field.{isFieldAt}
 use Rattle.fields.specs.Line.{isLineAt}
 use Rattle.model.specs.Refusal.{pass}
 use Rattle.model.specs.Network.{Network}
-use Rattle.model.specs.Stimulus.{stimLine, stimTime, stimSignal, stimValue, stimCheck, stimCount, endTime}
+use Rattle.model.specs.Stimulus.{stimLine, stimTime, stimSignal, stimValue, isEnd, stimCheck, stimCount, endTime}
 use Rattle.model.proofs.Accepted.{stim-right}
 use Rattle.model.proofs.RightLine.{line-field, line-within}
 use Rattle.file_stim.specs.declared.Numbers.{Numbers}
-use Rattle.file_stim.specs.declared.StimAnswer.the-variants.{Accepted}
 use Rattle.file_stim.specs.declared.Cursor.{Cursor}
 use Rattle.file_stim.specs.declared.Step.the-variants.{Given, End}
-use Rattle.file_stim.specs.Answer.{Answers}
-use Rattle.file_stim.specs.Judging.{ends}
+use Rattle.file_stim.specs.Judging.{numbersOf, ends}
 use Rattle.file_stim.specs.Stepping.{stepAt}
-use Rattle.file_stim.proofs.Judging.{Reads, ends-is}
+use Rattle.file_stim.proofs.Judging.{ends-is}
 
 -- the fields of a right line
 module _ (stim : List ℕ) (line : ℕ) (right : isLineAt stim (stimLine line) 3 ≡ true) where
@@ -39,14 +37,17 @@ module _ (stim : List ℕ) (line : ℕ) (right : isLineAt stim (stimLine line) 3
   line-fits = line-within stim (19 * line) 3 right
 
 -- the step from the numbers of a line
-module _ (stim : List ℕ) (line : ℕ) (here : Numbers) (reads : Reads stim line here) where
+module _ (stim : List ℕ) (line : ℕ) (here : Numbers) (is : here ≡ numbersOf stim line) where
+  ended : isEnd stim line ≡ ends here
+  ended = sym (ends-is stim line) ∙ ap ends (sym is)
+
   pub step-ends : ends here ≡ true → stepAt stim line ≡ End (here .time)
   unfolding stepAt
-  step-ends e = rw (← ends-is stim line here reads, e, reads .time)
+  step-ends e = rw (ended, e, is)
 
   pub step-gives : ends here ≡ false → stepAt stim line ≡ Given (here .time) (here .signal) (here .value) (record { line = line + 1 })
   unfolding stepAt
-  step-gives e = rw (← ends-is stim line here reads, e, reads .time, reads .signal, reads .value)
+  step-gives e = rw (ended, e, is)
 
 -- a step that gives a value, at a line before the end line
 pub record GivenAt (stim : List ℕ) (line time signal value : ℕ) (next : Cursor) : Type 0 where
@@ -97,8 +98,3 @@ module _ (n : Network) (stim : List ℕ) (accepted : stimCheck n stim ≡ pass) 
           let low : line < stimCount stim = omega arith in
           let is = step-before-end line low in
           absurd (let z : _≡_ {A = ℕ} 0 1 = cc in omega arith)
-
--- what the answer `Accepted` tells
-pub accepted-passes : (n : Network) (stim : List ℕ) (count : ℕ) → Answers n stim (Accepted count)
-    → (stimCheck n stim ≡ pass) × (count ≡ stimCount stim)
-accepted-passes n stim count a = (sym (a .refusal), a .lines count refl)

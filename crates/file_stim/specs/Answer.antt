@@ -1,10 +1,9 @@
 -- What STIM's check answers (01, Refusals): "a definition lists this paper's number and values for each case".
 use Prim.Native.Nat.{ℕ}
-use mathlib.Core.Path.{_≡_}
 use mathlib.Core.List.{List}
 use Rattle.model.specs.Refusal.{Check, pass, fail}
-use Rattle.model.specs.Network.{Network}
-use Rattle.model.specs.Stimulus.{stimCheck, stimCount}
+use Rattle.model.specs.Stimulus.{stimCount}
+use Rattle.file_lines.specs.Answer.{Answers}
 use Rattle.file_stim.specs.declared.StimAnswer.{StimAnswer}
 use Rattle.file_stim.specs.declared.StimAnswer.the-variants.{Accepted, Misformed, Layout, NotInput}
 
@@ -15,7 +14,6 @@ stimRefusal (Misformed line) = fail 30 line
 stimRefusal (Layout line) = fail 31 line
 stimRefusal (NotInput line) = fail 32 line
 
--- the check's answer on a file: refused as document 01 says, or accepted with the number of lines before the end line
-pub record Answers (n : Network) (stim : List ℕ) (answer : StimAnswer) : Type 0 where
-  pub refusal : stimRefusal answer ≡ stimCheck n stim
-  pub lines : (count : ℕ) → answer ≡ Accepted count → count ≡ stimCount stim
+-- r answers a check of STIM; where it accepts, it gives the number of lines before the end line
+abbrev pub StimAnswers : List ℕ → Check → StimAnswer → Type 0
+StimAnswers stim check r = Answers stimRefusal (Accepted (stimCount stim)) check r

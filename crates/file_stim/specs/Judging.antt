@@ -1,16 +1,25 @@
 -- How the code judges a right line by its numbers and those of the line before, 0 before line 1: it mirrors private functions.
--- `Answer.Answers` is what a caller reads.
-use Prim.Native.Nat.{ℕ, _+_}
+-- `stimCheck` is what a caller reads.
+use Prim.Native.Nat.{ℕ, zero, suc, _+_}
 use mathlib.Core.Bool.{Bool}
+use mathlib.Core.List.{List}
 use lib.Dec.{eqb, leb, ltb}
 use Rattle.logic.specs.Test.{_and_, _or_}
 use Rattle.logic.specs.Choice.{if_then_else_}
 use Rattle.model.specs.Network.{Network, isSignal, input}
+use Rattle.model.specs.Stimulus.{stimTime, stimSignal, stimValue}
 use Rattle.file_stim.specs.declared.StimAnswer.{StimAnswer}
 use Rattle.file_stim.specs.declared.StimAnswer.the-variants.{Accepted, Misformed, Layout, NotInput}
 use Rattle.file_stim.specs.declared.Numbers.{Numbers}
 use Rattle.file_stim.specs.declared.Judged.{Judged}
 use Rattle.file_stim.specs.declared.Judged.the-variants.{ReadOn, Answered}
+
+abbrev pub numbersOf : List ℕ → ℕ → Numbers
+numbersOf stim index = record { time = stimTime stim index; signal = stimSignal stim index; value = stimValue stim index }
+
+unfoldable pub numbersBefore : List ℕ → ℕ → Numbers
+numbersBefore stim zero = record { time = 0; signal = 0; value = 0 }
+numbersBefore stim (suc index) = numbersOf stim index
 
 unfoldable pub ends : Numbers → Bool
 ends here = eqb (here .signal) 0 and eqb (here .value) 0

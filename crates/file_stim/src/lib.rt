@@ -7,11 +7,11 @@ ghost use lib.Dec.{eqb};
 ghost use Rattle.fields.specs.Line.{isLineAt};
 ghost use Rattle.model.specs.Network.{isSignal, input};
 ghost use Rattle.model.specs.Netlist.{network};
-ghost use Rattle.model.specs.Stimulus.{stimLine, stimLimit};
+ghost use Rattle.model.specs.Stimulus.{stimLine, stimLimit, stimCheck};
 ghost use Rattle.model.specs.Checked.{Checked};
-ghost use Rattle.file_stim.specs.Answer.{Answers};
+ghost use Rattle.file_stim.specs.Answer.{StimAnswers};
 ghost use Rattle.file_stim.specs.Stepping.{stepAt};
-ghost use Rattle.file_stim.specs.Judging.{ends, rises, judgedEnd, judgedGiven, judged};
+ghost use Rattle.file_stim.specs.Judging.{numbersOf, ends, rises, judgedEnd, judgedGiven, judged};
 use fields::Field;
 
 // What the check answers: how many lines stand before the end line; or the line of a refusal, 30, 31 or 32 in this order.
@@ -139,48 +139,55 @@ fn judge(net: &[u8], index: u16, last: bool, before: Numbers, here: Numbers) -> 
     judge_given(net, index, before, here)
 }
 
-// STIM's check, NET being accepted: "the first bad line", 30 before 31 before 32. In the loop the answer is that line index + 1
-// is misformed or missing, so that a field that is wrong only has to leave it.
+// The numbers of a right line.
+fn numbers_at(stim: &[u8], line: usize) -> Numbers
+    requires { ⌜ isLineAt (now stim) (stimLine line) 3 ≡ true ⌝ }
+    ensures { λ r. ⌜ r ≡ numbersOf (now (stim .entry)) line ⌝ }
+{
+    let at = 19 * line;
+    Numbers {
+        time: fields::number_at(stim, at),
+        signal: fields::number_at(stim, at + 6),
+        value: fields::number_at(stim, at + 12),
+    }
+}
+
+// STIM's check, NET being accepted: its lines in order, 30 before 31 before 32 in each, and left at the first fault with its line or at
+// the end line. "At most 65534 lines": line 65535 is missing or surplus.
 pub fn check_stim(net: &[u8], stim: &[u8]) -> StimAnswer
     requires { ⌜ Checked (now net) ⌝ }
-    ensures { λ r. ⌜ Answers (network (now (net .entry))) (now (stim .entry)) r ⌝ }
+    ensures { λ r. ⌜ StimAnswers (now (stim .entry)) (stimCheck (network (now (net .entry))) (now (stim .entry))) r ⌝ }
 {
-    let mut answer = StimAnswer::Misformed(1);
+    let mut answer = StimAnswer::Misformed(65535);
     let mut before = Numbers {
         time: 0,
         signal: 0,
         value: 0,
     };
     let mut index: u16 = 0;
-    let mut place: usize = 0;
     'lines: while index < 65534 {
-        let mut numbers = [0u16; 3];
-        let mut field: usize = 0;
-        while field < 3 {
-            let Field::Number(n, next) = fields::read_field(stim, place) else {
+        let mut at = 19 * (index as usize);
+        let mut column: usize = 0;
+        while column < 3 {
+            let Field::Number(_, next) = fields::read_field(stim, at) else {
+                answer = StimAnswer::Misformed(index + 1);
                 break 'lines;
             };
-            numbers[field] = n;
-            place = next;
-            field += 1;
+            at = next;
+            column += 1;
         }
-        if !fields::ends_line(stim, place) {
+        if !fields::ends_line(stim, at) {
+            answer = StimAnswer::Misformed(index + 1);
             break 'lines;
         }
-        place += 1;
-        let here = Numbers {
-            time: numbers[0],
-            signal: numbers[1],
-            value: numbers[2],
-        };
-        let judged = judge(net, index, stim.len() <= place, before, here);
+        let here = numbers_at(stim, index as usize);
+        let judged = judge(net, index, stim.len() <= at + 1, before, here);
         if let Judged::Answered(found) = judged {
             answer = found;
             break 'lines;
         }
         before = here;
         index += 1;
-        answer = StimAnswer::Misformed(index + 1);
     }
     answer
 }
@@ -192,12 +199,7 @@ impl Cursor {
         ensures { λ r. ⌜ r ≡ stepAt (now (stim .entry)) (self .line) ⌝ }
     {
         let line = self.line;
-        let place = 19 * line;
-        let here = Numbers {
-            time: fields::number_at(stim, place),
-            signal: fields::number_at(stim, place + 6),
-            value: fields::number_at(stim, place + 12),
-        };
+        let here = numbers_at(stim, line);
         if is_end(here) {
             return Step::End(here.time);
         }

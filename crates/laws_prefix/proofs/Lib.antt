@@ -1,3 +1,4 @@
+pub mod Cut
 pub mod Net
 pub mod Module
 pub mod Stim

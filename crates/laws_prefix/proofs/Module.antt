@@ -1,82 +1,87 @@
 -- A MOD has at most 85 × 4097 = 348,245 bytes, and one byte more is surplus: what follows that one changes no answer.
 use Prim.Native.Nat.{ℕ, _+_, _*_, _/_, _%_, _<_, _≤_}
-use mathlib.Core.Path.{_≡_, refl, sym, ap, _∙_}
-use mathlib.Core.Bool.{Bool, true, false}
+use mathlib.Core.Path.{_≡_, refl, ap, _∙_}
 use mathlib.Core.List.{List}
 use native.Mathlib.Omega.{arith}
 use native.Mathlib.Nat.{mul-le-mul}
-use lib.Dec.{eqb, leb}
-use lib.ListN.{length, take}
-use lib.Seq.{length-take-le, take-all}
-use borrow.Author.Tests.{leb-true, leb-false, lt-leb}
-use Rattle.logic.specs.Test.{all}
-use Rattle.fields.specs.Field.{numberAt}
-use Rattle.fields.specs.Line.{isLineAt}
+use lib.Dec.{eqb}
+use lib.ListN.{take}
 use Rattle.logic.proofs.Tests.{all-same}
-use Rattle.fields.proofs.Taken.{number-take, line-take}
-use Rattle.model.specs.Refusal.{Check, pass, fail, first, unless}
+use Rattle.fields.specs.Line.{isLineAt}
+use Rattle.model.specs.Refusal.{Check, pass, first}
 use Rattle.model.specs.Network.{Network}
-use Rattle.model.specs.Module.{switchPresent}
-use Rattle.model.specs.ModuleFile.{modField, modProcessors, modSlots, modIndex, modHeader, modSlot, eachLine, modSurplus, modCheck}
-use Rattle.model.proofs.Refusals.{first-second, first-stays, below-same}
-use Rattle.file_mod_lines.specs.Layout.{lineAt, pairAt, operandsAt}
-use Rattle.file_mod_lines.proofs.Lines.{line-judged, line-index}
-use Rattle.file_mod_lines.proofs.Stages.{header-sized}
+use Rattle.model.specs.ModuleFile.{modLine, modField, modProcessors, modSlots, modIndex, moduleOf, locationLayout, operandLayout, sendLayout, senderLayout, lineLayout, modHeader, modSlot, eachLine, modSurplus, placed, sending, receiving, operands, modCheck}
+use Rattle.file_mod_lines.proofs.Lines.{line-index}
+use Rattle.file_mod_lines.proofs.Accepted.{header-sized}
+use Rattle.laws_prefix.proofs.Cut.{line-kept, field-kept, cut-kept}
 
-module _ (l : List ℕ) (long : ℕ) (enough : 348246 ≤ long) where
-  cut : List ℕ
-  cut = take long l
+module _ (m : ℕ) (enough : 348245 < m) (l : List ℕ) where
+  abbrev taken : List ℕ
+  taken = take m l
 
-  -- the line at a place, one of the first 4097
-  module _ (at : ℕ) (low : at + 85 ≤ 348246) where
-    line-kept : isLineAt cut at 14 ≡ isLineAt l at 14
-    unfolding cut
-    line-kept = line-take long l at 14 (omega arith)
+  module _ (index : ℕ) (h : index ≤ 4096) where
+    line-same : isLineAt taken (modLine index) 14 ≡ isLineAt l (modLine index) 14
+    line-same = line-kept 14 4097 m l enough index (omega arith)
 
-    field-kept : (x : ℕ) → x ≤ at + 79 → numberAt cut x ≡ numberAt l x
-    unfolding cut
-    field-kept x h = number-take long l x (omega arith)
+    field-same : (column : ℕ) → column < 14 → modField taken index column ≡ modField l index column
+    field-same = field-kept 14 4097 m l enough index (omega arith)
 
-    operands-kept : (slots : ℕ) → operandsAt cut at slots ≡ operandsAt l at slots
-    unfolding operandsAt
-    operands-kept slots =
-        all-same (λ j. pairAt cut (at + 18 + 12 * j) switchPresent slots) (λ j. pairAt l (at + 18 + 12 * j) switchPresent slots) 4
-        (λ j h. rw (field-kept (at + 18 + 12 * j) (omega arith), field-kept (at + 18 + 12 * j + 6) (omega arith)))
+  processors-same : modProcessors taken ≡ modProcessors l
+  processors-same = field-same 0 (omega arith) 0 (omega arith)
 
-    judged-kept : (p i size processors slots : ℕ) → lineAt cut at p i size processors slots ≡ lineAt l at p i size processors slots
-    unfolding lineAt
-    judged-kept p i size processors slots =
-        rw (
-          field-kept at (omega arith),
-          field-kept (at + 6) (omega arith),
-          field-kept (at + 12) (omega arith),
-          operands-kept slots,
-          field-kept (at + 66) (omega arith),
-          field-kept (at + 66 + 6) (omega arith),
-          field-kept (at + 78) (omega arith),
-        )
-        refl
+  slots-same : modSlots taken ≡ modSlots l
+  slots-same = field-same 0 (omega arith) 1 (omega arith)
 
-  processors-kept : modProcessors cut ≡ modProcessors l
-  processors-kept = field-kept 0 (omega arith) 0 (omega arith)
-
-  slots-kept : modSlots cut ≡ modSlots l
-  slots-kept = field-kept 0 (omega arith) 6 (omega arith)
-
-  header-kept : modHeader cut ≡ modHeader l
+  header-same : modHeader taken ≡ modHeader l
   unfolding modHeader
-  header-kept =
-      let zeros : all 12 (λ k. eqb (modField cut 0 (2 + k)) 0) ≡ all 12 (λ k. eqb (modField l 0 (2 + k)) 0) =
-      all-same (λ k. eqb (modField cut 0 (2 + k)) 0) (λ k. eqb (modField l 0 (2 + k)) 0) 12
-      (λ k h. ap (λ (x : ℕ). eqb x 0) (field-kept 0 (omega arith) (85 * 0 + 6 * (2 + k)) (omega arith))) in
-      rw (line-kept 0 (omega arith), processors-kept, slots-kept, zeros)
+  header-same =
+      rw (
+        line-same 0 (omega arith),
+        processors-same,
+        slots-same,
+        all-same (λ k. eqb (modField taken 0 (2 + k)) 0) (λ k. eqb (modField l 0 (2 + k)) 0) 12
+            (λ k h. ap (λ (x : ℕ). eqb x 0) (field-same 0 (omega arith) (2 + k) (omega arith))),
+      )
 
-  slot-kept : (n : Network) (p i : ℕ) → modIndex l p i ≤ 4096 → modSlot n cut p i ≡ modSlot n l p i
-  unfolding modSlot
-  slot-kept n p i h =
-      let low : 85 * modIndex l p i + 85 ≤ 348246 = omega arith in
-      rw (line-judged n cut p i, line-judged n l p i, processors-kept, slots-kept, line-kept (85 * modIndex l p i) low)
-      (rw (judged-kept (85 * modIndex l p i) low p i (n .size) (modProcessors l) (modSlots l)))
+  -- the line of a processor and a slot
+  module _ (p i : ℕ) (h : modIndex l p i ≤ 4096) where
+    index-same : modIndex taken p i ≡ modIndex l p i
+    index-same = ap (λ (c : ℕ). 1 + p * c + i) slots-same
+
+    column-same : (column : ℕ) → column < 14 → modField taken (modIndex taken p i) column ≡ modField l (modIndex l p i) column
+    column-same column low = ap (λ (x : ℕ). modField taken x column) index-same ∙ field-same (modIndex l p i) h column low
+
+    operand-same : (j : ℕ) → j < 4 → operandLayout (moduleOf taken) p i j ≡ operandLayout (moduleOf l) p i j
+    unfolding operandLayout locationLayout moduleOf
+    operand-same j low = rw (column-same (3 + 2 * j) (omega arith), column-same (4 + 2 * j) (omega arith), slots-same)
+
+    send-same : sendLayout (moduleOf taken) p i ≡ sendLayout (moduleOf l) p i
+    unfolding sendLayout locationLayout moduleOf
+    send-same = rw (column-same 11 (omega arith), column-same 12 (omega arith), slots-same)
+
+    sender-same : senderLayout (moduleOf taken) p i ≡ senderLayout (moduleOf l) p i
+    unfolding senderLayout moduleOf
+    sender-same = rw (column-same 13 (omega arith), processors-same)
+
+    signal-same : moduleOf taken .signal p i ≡ moduleOf l .signal p i
+    unfolding moduleOf
+    signal-same = column-same 2 (omega arith)
+
+    layout-same : (n : Network) → lineLayout n taken p i ≡ lineLayout n l p i
+    unfolding lineLayout
+    layout-same n =
+        rw (
+          column-same 0 (omega arith),
+          column-same 1 (omega arith),
+          signal-same,
+          all-same (operandLayout (moduleOf taken) p i) (operandLayout (moduleOf l) p i) 4 operand-same,
+          send-same,
+          sender-same,
+        )
+
+    slot-same : (n : Network) → modSlot n taken p i ≡ modSlot n l p i
+    unfolding modSlot
+    slot-same n = rw (layout-same n, index-same, line-same (modIndex l p i) h)
 
   module _ (right : modHeader l ≡ pass) where
     few-lines : modProcessors l * modSlots l ≤ 4096
@@ -84,47 +89,21 @@ module _ (l : List ℕ) (long : ℕ) (enough : 348246 ≤ long) where
         let s = header-sized l (modProcessors l) (modSlots l) right refl refl in
         omega (arith, mul-le-mul (s .processors-high) (s .slots-high))
 
-    lines-kept : (n : Network) → eachLine cut (modSlot n cut) ≡ eachLine l (modSlot n l)
-    unfolding eachLine
-    lines-kept n =
-        rw (processors-kept, slots-kept)
-        (below-same (modProcessors l * modSlots l) (λ k. modSlot n cut (k / modSlots l) (k % modSlots l))
-        (λ k. modSlot n l (k / modSlots l) (k % modSlots l))
-        (λ k h. slot-kept n (k / modSlots l) (k % modSlots l) (omega (arith, line-index l k, few-lines))))
+    nth-same : (n : Network) (k : ℕ) → k < modProcessors l * modSlots l
+        → modSlot n taken (k / modSlots taken) (k % modSlots taken) ≡ modSlot n l (k / modSlots l) (k % modSlots l)
+    nth-same n k low =
+        ap (λ (c : ℕ). modSlot n taken (k / c) (k % c)) slots-same
+        ∙ slot-same (k / modSlots l) (k % modSlots l) (omega (arith, line-index l k, few-lines)) n
 
-    -- the whole file and the cut one both have a line after the last
-    surplus-kept : long < length l → (rest more : Check) → first (modSurplus cut) rest ≡ first (modSurplus l) more
-    unfolding modSurplus unless first
-    surplus-kept h rest more =
-        let size : length cut ≡ long = unfold cut in length-take-le long l (omega arith) in
-        rw (
-          processors-kept,
-          slots-kept,
-          lt-leb (length cut) (85 * (modProcessors l * modSlots l + 1)) (omega (arith, few-lines)),
-          lt-leb (length l) (85 * (modProcessors l * modSlots l + 1)) (omega (arith, few-lines)),
-        )
-
-  cut-kept : (n : Network) → modCheck n cut ≡ modCheck n l
-  unfolding modCheck cut
-  cut-kept n = go (leb (length l) long) refl
+  check-same : (n : Network) → modCheck n taken ≡ modCheck n l
+  unfolding modCheck eachLine modSurplus
+  check-same n =
+      cut-kept 85 4096 20 modHeader (λ file. modProcessors file * modSlots file)
+      (λ file k. modSlot n file (k / modSlots file) (k % modSlots file)) after m enough l header-same
+      (rw (processors-same, slots-same)) few-lines (λ e k low. nth-same e n k low)
     where
-      after-lines : long < length l → modHeader l ≡ pass → (k : Check) → eachLine l (modSlot n l) ≡ k → modCheck n cut ≡ modCheck n l
-      after-lines h right (fail number returned) e =
-          rw (header-kept, first-second _ _ right, lines-kept right n)
-          (first-stays _ _ e ∙ sym (first-second _ _ right ∙ first-stays _ _ e))
-      after-lines h right pass e =
-          rw (header-kept, lines-kept right n)
-          (first-second _ _ right ∙ first-second _ _ e ∙ surplus-kept right h _ _
-          ∙ sym (first-second _ _ right ∙ first-second _ _ e))
-
-      after-header : long < length l → (k : Check) → modHeader l ≡ k → modCheck n cut ≡ modCheck n l
-      after-header h (fail number returned) e = rw header-kept (first-stays _ _ e ∙ sym (first-stays _ _ e))
-      after-header h pass e = after-lines h e (eachLine l (modSlot n l)) refl
-
-      go : (b : Bool) → leb (length l) long ≡ b → modCheck n cut ≡ modCheck n l
-      go true e = ap (modCheck n) (take-all long l (leb-true (length l) long e))
-      go false e = after-header (leb-false (length l) long e) (modHeader l) refl
+      after : List ℕ → Check
+      after file = first (placed n (moduleOf file)) (first (sending file) (first (receiving file) (operands n file)))
 
 pub mod-prefix : (n : Network) (modfile : List ℕ) → modCheck n (take 348246 modfile) ≡ modCheck n modfile
-unfolding cut
-mod-prefix n modfile = cut-kept modfile 348246 (omega arith) n
+mod-prefix n modfile = check-same 348246 (omega arith) modfile n

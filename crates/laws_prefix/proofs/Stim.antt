@@ -1,41 +1,36 @@
--- A STIM has at most 1,245,146 bytes, and one byte more is surplus: what follows that one changes no answer.
+-- A STIM has at most 19 × 65534 = 1,245,146 bytes, and one byte more is surplus: what follows that one changes no answer.
 use Prim.Native.Nat.{ℕ, zero, suc, _+_, _*_, _<_, _≤_}
 use mathlib.Core.Path.{_≡_, refl}
 use mathlib.Core.Bool.{Bool, true, false}
 use mathlib.Core.List.{List}
 use native.Mathlib.Omega.{arith}
 use lib.Dec.{leb}
-use lib.ListN.{length, take, length-take}
-use borrow.Author.Tests.{le-leb, lt-leb, leb-true, leb-false}
+use lib.ListN.{length, take}
 use Rattle.fields.specs.Line.{isLineAt}
 use Rattle.model.specs.Refusal.{Check, first, unless}
 use Rattle.model.specs.Network.{Network}
 use Rattle.model.specs.Stimulus.{stimLine, stimTime, stimSignal, stimValue, stimLimit, isEnd, timeBefore, rising, givesValue, mayGive, stimGiven, stimEnd, stimLines, stimCheck}
-use Rattle.fields.proofs.Taken.{number-take, line-take}
+use Rattle.laws_prefix.proofs.Cut.{line-kept, field-kept, end-kept}
 
-module _ (n : Network) (m : ℕ) (stim : List ℕ) (long : 1245147 ≤ m) where
+module _ (n : Network) (m : ℕ) (enough : 1245146 < m) (stim : List ℕ) where
   abbrev taken : List ℕ
   taken = take m stim
 
   module _ (i : ℕ) (h : i < stimLimit) where
     line-same : isLineAt taken (stimLine i) 3 ≡ isLineAt stim (stimLine i) 3
-    line-same = line-take m stim (19 * i) 3 (omega arith)
+    line-same = line-kept 3 65534 m stim enough i h
 
     time-same : stimTime taken i ≡ stimTime stim i
-    time-same = number-take m stim (19 * i) (omega arith)
+    time-same = let e : 19 * i + 6 * 0 ≡ 19 * i = omega arith in rw e at (field-kept 3 65534 m stim enough i h 0 (omega arith))
 
     signal-same : stimSignal taken i ≡ stimSignal stim i
-    signal-same = number-take m stim (19 * i + 6) (omega arith)
+    signal-same = field-kept 3 65534 m stim enough i h 1 (omega arith)
 
     value-same : stimValue taken i ≡ stimValue stim i
-    value-same = number-take m stim (19 * i + 12) (omega arith)
+    value-same = field-kept 3 65534 m stim enough i h 2 (omega arith)
 
     length-same : leb (length taken) (stimLine (i + 1)) ≡ leb (length stim) (stimLine (i + 1))
-    length-same = go (leb (length stim) (stimLine (i + 1))) refl
-      where
-        go : (b : Bool) → leb (length stim) (stimLine (i + 1)) ≡ b → leb (length taken) (stimLine (i + 1)) ≡ b
-        go true e = le-leb (length taken) (stimLine (i + 1)) (omega (arith, length-take m stim, leb-true (length stim) (stimLine (i + 1)) e))
-        go false e = lt-leb (length taken) (stimLine (i + 1)) (omega (arith, length-take m stim, leb-false (length stim) (stimLine (i + 1)) e))
+    length-same = end-kept 3 65534 m stim enough (i + 1) (omega arith)
 
     is-end-same : isEnd taken i ≡ isEnd stim i
     unfolding isEnd
@@ -80,6 +75,5 @@ module _ (n : Network) (m : ℕ) (stim : List ℕ) (long : 1245147 ≤ m) where
   unfolding stimCheck
   check-same = lines-same stimLimit 0 (omega arith)
 
--- 1,245,146 bytes are 65,534 lines
 pub stim-prefix : (n : Network) (stim : List ℕ) → stimCheck n (take 1245147 stim) ≡ stimCheck n stim
-stim-prefix n stim = check-same n 1245147 stim (omega arith)
+stim-prefix n stim = check-same n 1245147 (omega arith) stim

@@ -26,6 +26,11 @@ unfolding _or_
 or-yes true = refl
 or-yes false = refl
 
+pub and-assoc : (a b c : Bool) → (a and b) and c ≡ a and b and c
+unfolding _and_
+and-assoc true b c = refl
+and-assoc false b c = refl
+
 -- two tests that pass together are equal
 pub same-test : (a b : Bool) → (a ≡ true → b ≡ true) → (b ≡ true → a ≡ true) → a ≡ b
 same-test true b f g = sym (f refl)
@@ -73,6 +78,12 @@ module _ (r x y : ℕ) (rest : Bool) (e : r ≡ x) where
 
   pub most-goes-on : r ≤ y → leb x y and rest ≡ rest
   most-goes-on h = yes (leb x y) rest (rw (← e) (le-leb r y h))
+
+  pub least-stops : r < y → leb y x and rest ≡ false
+  least-stops h = no (leb y x) rest (rw (← e) (lt-leb y r h))
+
+  pub least-goes-on : y ≤ r → leb y x and rest ≡ rest
+  least-goes-on h = yes (leb y x) rest (rw (← e) (le-leb y r h))
 
 module _ (x y : ℕ) (rest : Bool) where
   pub low-stops : y ≤ x → ltb x y and rest ≡ false

@@ -1,14 +1,14 @@
 -- Each check has what it asks for, a refusal is the first of the files read, and the listing is of accepted files.
-use mathlib.Core.Path.{sym, _∙_}
+use mathlib.Core.Path.{refl, sym, _∙_}
 use native.Mathlib.Omega.{arith}
-use Rattle.model.proofs.Refusals.{pass-not-fail}
 use Rattle.model.proofs.Checked.{checked-accepted}
-use Rattle.file_net.proofs.Joined.{refusal-of, stage-pass}
-use Rattle.file_mod_lines.proofs.Told.{not-accepted}
-use Rattle.file_mod_lines.proofs.Stages.{passed}
+use Rattle.file_lines.proofs.Stages.{passes, refuses}
+use Rattle.file_net.proofs.NetAnswer.{the-type as net-type}
+use Rattle.file_mod_lines.proofs.ModAnswer.{the-type as mod-type}
+use Rattle.file_stim.proofs.StimAnswer.{the-type as stim-type}
 use Rattle.file_checks.proofs.Joined.{net-stops, mod-stops, stim-last}
 use Rattle.listing_print.proofs.Parts.{prefix-length}
-use Rattle.cavundir.proofs.Accepting.{all-accepted, mod-refuses, stim-refuses}
+use Rattle.cavundir.proofs.Accepting.{all-accepted}
 use borrow.Author.Needs.{needs}
 use Rattle.cavundir.proofs.run.Statement.{statement}
 use Rattle.cavundir.proofs.run.Tie as tie
@@ -18,35 +18,37 @@ refuse-requires c κs =
     let matched = c .before .before .before .before .before .before in
     let read = matched .before .before .before .before .before in
     let told = c .before .before .before .before .before .net-answer .ensures in
-    let refuses = refusal-of _ (matched .match .keys2) in (
+    let answers = matched .before .check-net .ensures in
+    let other = matched .match .keys2 in (
       (read .read-file .ensures, omega arith, omega arith),
-      (told ∙ net-stops _ _ _ _ _ (matched .before .check-net .ensures) refuses, (λ e. pass-not-fail (sym e ∙ told ∙ refuses .is), (search needs, search needs))),
+      (told ∙ net-stops _ _ _ _ answers other, (λ e. refuses net-type refl answers other (sym told ∙ e), (search needs, search needs))),
     )
 
 check-mod-requires : tie.Need-check-mod-requires
 check-mod-requires c κs =
     let net-told = c .before .before .before .before .before .before .before in
-    checked-accepted 4096 (omega arith) _ (stage-pass _ _ _ _ (net-told .before .before .check-net .ensures) (net-told .enum-told .given .1))
+    checked-accepted 4096 (omega arith) _ (passes (net-told .before .before .check-net .ensures) (net-told .enum-told .given .1) refl)
 
 refuse-requires-2 : tie.Need-refuse-requires-2
 refuse-requires-2 c κs =
     let matched = c .before .before .before .before .before .before in
     let net-told = matched .before .before .before .before .before .before .before .before .before in
     let start = net-told .before .before .before .before .before .before .before .before .before .before .before .before in
-    let net-right = stage-pass _ _ _ _ (net-told .before .before .check-net .ensures) (net-told .enum-told .given .1) in
+    let net-right = passes (net-told .before .before .check-net .ensures) (net-told .enum-told .given .1) refl in
     let net-read = net-told .before .before .before .before .before .before in
     let mod-read = matched .before .before .before .before .before .before in
     let told = c .before .before .before .before .before .mod-answer .ensures in
-    let refuses = not-accepted _ (matched .match2 .keys2) in (
+    let answers = matched .before .check-mod .ensures in
+    let other = matched .match2 .keys2 in (
       (net-read .read-file .ensures, mod-read .read-file2 .ensures, omega arith),
-      (told ∙ mod-stops _ _ _ net-right _ _ _ (matched .before .check-mod .ensures) refuses, (λ e. mod-refuses _ refuses (sym told ∙ e), start .pre)),
+      (told ∙ mod-stops _ _ _ net-right _ answers other, (λ e. refuses mod-type refl answers other (sym told ∙ e), start .pre)),
     )
 
 check-stim-requires : tie.Need-check-stim-requires
 check-stim-requires c κs =
     let mod-told = c .before .before .before .before .before .before .before in
     let net-told = mod-told .before .before .before .before .before .before .before .before .before .before in
-    checked-accepted 4096 (omega arith) _ (stage-pass _ _ _ _ (net-told .before .before .check-net .ensures) (net-told .enum-told .given .1))
+    checked-accepted 4096 (omega arith) _ (passes (net-told .before .before .check-net .ensures) (net-told .enum-told .given .1) refl)
 
 refuse-requires-3 : tie.Need-refuse-requires-3
 refuse-requires-3 c κs =
@@ -54,8 +56,8 @@ refuse-requires-3 c κs =
     let mod-told = matched .before .before .before .before .before .before .before .before .before in
     let net-told = mod-told .before .before .before .before .before .before .before .before .before .before in
     let start = net-told .before .before .before .before .before .before .before .before .before .before .before .before in
-    let net-right = stage-pass _ _ _ _ (net-told .before .before .check-net .ensures) (net-told .enum-told .given .1) in
-    let mod-right = passed _ _ _ _ _ _ (mod-told .before .before .check-mod .ensures) (mod-told .enum-told2 .given .1) in
+    let net-right = passes (net-told .before .before .check-net .ensures) (net-told .enum-told .given .1) refl in
+    let mod-right = passes (mod-told .before .before .check-mod .ensures) (mod-told .enum-told2 .given .1) refl in
     let net-read = net-told .before .before .before .before .before .before in
     let mod-read = mod-told .before .before .before .before .before .before .before in
     let stim-read = matched .before .before .before .before .before .before in
@@ -63,7 +65,7 @@ refuse-requires-3 c κs =
       (net-read .read-file .ensures, mod-read .read-file2 .ensures, stim-read .read-file3 .ensures),
       (
         told ∙ stim-last _ _ _ net-right _ mod-right (matched .before .check-stim .ensures),
-        (λ e. stim-refuses (matched .before .check-stim .result) (matched .match3 .keys2) (sym told ∙ e), start .pre),
+        (λ e. refuses stim-type refl (matched .before .check-stim .ensures) (matched .match3 .keys2) (sym told ∙ e), start .pre),
       ),
     )
 
@@ -79,8 +81,8 @@ print-listing-requires c κs =
     let mod-told = lines-told .before .before .before .before .before .before .before .before .before .before in
     let net-told = mod-told .before .before .before .before .before .before .before .before .before .before in
     let start = net-told .before .before .before .before .before .before .before .before .before .before .before .before in
-    let net-right = stage-pass _ _ _ _ (net-told .before .before .check-net .ensures) (net-told .enum-told .given .1) in
-    let mod-right = passed _ _ _ _ _ _ (mod-told .before .before .check-mod .ensures) (mod-told .enum-told2 .given .1) in
+    let net-right = passes (net-told .before .before .check-net .ensures) (net-told .enum-told .given .1) refl in
+    let mod-right = passes (mod-told .before .before .check-mod .ensures) (mod-told .enum-told2 .given .1) refl in
     let all = all-accepted _ _ _ net-right mod-right _ _ (lines-told .third .given .1) (lines-told .before .before .check-stim .ensures) in
     (all .0, (all .1, start .pre))
 

@@ -6,16 +6,16 @@ use borrow.Author.Tests.{not-true, not-false}
 use Rattle.model.specs.Refusal.{pass, firstBelow}
 use Rattle.model.specs.Netlist.{network}
 use Rattle.file_mod.proofs.Numbered.{line-numbered, signal-numbered}
-use Rattle.file_mod.proofs.Testing.{lineTest, test-stops, test-goes-on, test-passes}
+use Rattle.file_mod.proofs.Testing.{lineTest, each-stops, each-goes-on, each-ends}
 use borrow.Author.Needs.{needs}
 use Rattle.file_mod.proofs.check_each.Statement.{statement}
 use Rattle.file_mod.proofs.check_each.Tie as tie
 
 abbrev Inv-loop : tie.InvT-loop
-Inv-loop test net modfile processors slots lines k₀ k = (k ≤ lines) × (firstBelow k (lineTest test (network net) modfile) ≡ pass)
+Inv-loop test net modfile shape lines k₀ k = (k ≤ lines) × (firstBelow k (lineTest test (network net) modfile) ≡ pass)
 
 abbrev μ-loop : tie.MeasureT-loop
-μ-loop test net modfile processors slots lines k₀ k = lines - k
+μ-loop test net modfile shape lines k₀ k = lines - k
 
 loop-holds : tie.Need-loop-holds Inv-loop μ-loop
 unfolding firstBelow
@@ -23,34 +23,34 @@ loop-holds c = (omega arith, refl)
 
 line-right-requires : tie.Need-line-right-requires Inv-loop μ-loop
 line-right-requires c κs =
-    let s = c .before .before .before .before .before .before .before in
-    let loop = c .before .before .before .loop in
-    let low : loop .k < s .args .processors * s .args .slots = omega (arith, c .before .before .before .before .line-count .ensures .0) in
+    let s = c .before .before .before .before .before .before in
+    let loop = c .before .before .loop in
+    let low : loop .k < s .args .shape .processors * s .args .shape .slots = omega (arith, c .before .before .before .line-count .ensures .0) in
     let line = line-numbered _ _ _ (s .pre .laid) (loop .k) low in
-    rw (c .before .processor-of .ensures, c .slot-of .ensures) (line, (s .pre .checked, signal-numbered _ _ _ _ (s .pre) (loop .k) low))
+    rw (c .place-of .ensures .0, c .place-of .ensures .1) (line, (s .pre .checked, signal-numbered _ _ _ _ (s .pre) (loop .k) low))
 
 returns : tie.Need-returns Inv-loop μ-loop
 returns c =
     let judged = c .before .before in
-    let line = judged .before .before in
+    let line = judged .before in
     let loop = line .before .before .loop in
     let count = line .before .before .before in
     let s = count .before .before .before in
-    let here = rw (line .processor-of .ensures, judged .before .slot-of .ensures) at (judged .line-right .ensures) in
-    let tested = test-stops (s .args .test) (network (s .args .net .now)) (s .args .modfile .now) _ _ (s .pre .laid .sized) _ (loop .k) in
+    let here = rw (line .place-of .ensures .0, line .place-of .ensures .1) at (judged .line-right .ensures) in
+    let tested = each-stops (s .args .test) (network (s .args .net .now)) (s .args .modfile .now) _ _ (s .pre .laid .sized) _ (loop .k) in
     rw (c .refused-at .ensures)
     (tested (count .line-count .ensures .0) (loop .inv .1) (line .before .loop-test .taken) _ here (not-true _ (c .before .if1 .taken)))
 
 loop-again : tie.Need-loop-again Inv-loop μ-loop
 loop-again c =
     let judged = c .before in
-    let line = judged .before .before in
+    let line = judged .before in
     let loop = line .before .before .loop in
     let count = line .before .before .before in
     let s = count .before .before .before in
-    let here = rw (line .processor-of .ensures, judged .before .slot-of .ensures) at (judged .line-right .ensures) in
+    let here = rw (line .place-of .ensures .0, line .place-of .ensures .1) at (judged .line-right .ensures) in
     let low : loop .k + 1 ≤ count .line-count .result = omega arith in
-    let tested = test-goes-on (s .args .test) (network (s .args .net .now)) (s .args .modfile .now) _ _ (s .pre .laid .sized) _ (loop .k) in
+    let tested = each-goes-on (s .args .test) (network (s .args .net .now)) (s .args .modfile .now) _ _ (s .pre .laid .sized) _ (loop .k) in
     (low, tested (count .line-count .ensures .0) (loop .inv .1) _ here (not-false _ (c .if1 .left)))
 
 returns-2 : tie.Need-returns-2 Inv-loop μ-loop
@@ -58,7 +58,7 @@ returns-2 c =
     let loop = c .before .loop in
     let count = c .before .before in
     let s = count .before .before .before in
-    let tested = test-passes (s .args .test) (network (s .args .net .now)) (s .args .modfile .now) _ _ (s .pre .laid .sized) _ (loop .k) in
+    let tested = each-ends (s .args .test) (network (s .args .net .now)) (s .args .modfile .now) _ _ (s .pre .laid .sized) _ (loop .k) in
     tested (count .line-count .ensures .0) (loop .inv .1) (loop .inv .0) (c .loop-test .left)
 
 pub check-each-spec : {M : Type 1} → statement M
@@ -69,7 +69,6 @@ check-each-spec =
     μ-loop
     (λ c κs. search needs)
     loop-holds
-    (λ c κs. search needs)
     (λ c κs. search needs)
     line-right-requires
     (λ c. search needs)

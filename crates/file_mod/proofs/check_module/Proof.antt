@@ -1,7 +1,10 @@
 -- The first of the checks that refuses answers for all.
+use mathlib.Core.Path.{refl}
 use Rattle.model.specs.Netlist.{network}
-use Rattle.file_mod_lines.proofs.Told.{not-accepted}
-use Rattle.file_mod_lines.proofs.Stages.{refused, passed, after}
+use Rattle.model.specs.ModuleFile.{moduleOf, placed}
+use Rattle.file_lines.proofs.Stages.{passes, after, stops}
+use Rattle.file_mod_lines.specs.Answer.{ModAnswers}
+use Rattle.file_mod_lines.proofs.ModAnswer.{the-type}
 use Rattle.file_mod.proofs.Formed.{signals-few, net-signals}
 use borrow.Author.Needs.{needs}
 use Rattle.file_mod.proofs.check_module.Statement.{statement}
@@ -12,49 +15,39 @@ check-placements-requires c κs =
     let s = c .before .before in
     (s .pre .0 .laid, signals-few _ _ (s .pre .0 .checked) (s .pre .1))
 
+-- 22 answers for the network of NET
+placed-answers : (c : tie.After-check-placements)
+    → let a = c .before .before .before .args in
+    let modfile = a .modfile .now in ModAnswers modfile (placed (network (a .net .now)) (moduleOf modfile)) (c .check-placements .result)
+placed-answers c =
+    let start = c .before .before .before in
+    c .check-placements .ensures (network (start .args .net .now)) (net-signals (start .args .net .now) _ (start .pre .1))
+
 returns : tie.Need-returns
-returns c =
-    let placements = c .before in
-    let s = placements .before .before .before in
-    let net = s .args .net .now in
-    let answer = placements .check-placements .ensures (network net) (net-signals net _ (s .pre .1)) in
-    refused _ _ _ _ _ _ _ answer (not-accepted _ (c .match .keys2))
+returns c = stops the-type refl (placed-answers (c .before)) (c .match .keys2) _
 
 returns-2 : tie.Need-returns-2
 returns-2 c =
     let sends = c .before in
-    let placements = sends .before .before .before in
-    let s = placements .before .before .before in
-    let net = s .args .net .now in
-    let answer = placements .check-placements .ensures (network net) (net-signals net _ (s .pre .1)) in
-    let right-placements = passed _ _ _ _ _ _ answer (sends .before .enum-told .given .1) in
-    after _ _ _ _ _ right-placements (refused _ _ _ _ _ _ _ (sends .check-each .ensures) (not-accepted _ (c .match2 .keys2)))
+    let right-placements = passes (placed-answers (sends .before .before .before)) (sends .before .enum-told .given .1) refl in
+    after right-placements (stops the-type refl (sends .check-each .ensures) (c .match2 .keys2) _)
 
 returns-3 : tie.Need-returns-3
 returns-3 c =
     let receptions = c .before in
     let sends = receptions .before .before .before in
-    let placements = sends .before .before .before in
-    let s = placements .before .before .before in
-    let net = s .args .net .now in
-    let answer = placements .check-placements .ensures (network net) (net-signals net _ (s .pre .1)) in
-    let right-placements = passed _ _ _ _ _ _ answer (sends .before .enum-told .given .1) in
-    let right-sends = passed _ _ _ _ _ _ (sends .check-each .ensures) (receptions .before .enum-told2 .given .1) in
-    after _ _ _ _ _ right-placements
-    (after _ _ _ _ _ right-sends (refused _ _ _ _ _ _ _ (receptions .check-each2 .ensures) (not-accepted _ (c .match3 .keys2))))
+    let right-placements = passes (placed-answers (sends .before .before .before)) (sends .before .enum-told .given .1) refl in
+    let right-sends = passes (sends .check-each .ensures) (receptions .before .enum-told2 .given .1) refl in
+    after right-placements (after right-sends (stops the-type refl (receptions .check-each2 .ensures) (c .match3 .keys2) _))
 
 returns-4 : tie.Need-returns-4
 returns-4 c =
     let receptions = c .before .before .before in
     let sends = receptions .before .before .before in
-    let placements = sends .before .before .before in
-    let s = placements .before .before .before in
-    let net = s .args .net .now in
-    let answer = placements .check-placements .ensures (network net) (net-signals net _ (s .pre .1)) in
-    let right-placements = passed _ _ _ _ _ _ answer (sends .before .enum-told .given .1) in
-    let right-sends = passed _ _ _ _ _ _ (sends .check-each .ensures) (receptions .before .enum-told2 .given .1) in
-    let right-receptions = passed _ _ _ _ _ _ (receptions .check-each2 .ensures) (c .before .enum-told3 .given .1) in
-    after _ _ _ _ _ right-placements (after _ _ _ _ _ right-sends (after _ _ _ _ _ right-receptions (c .check-each3 .ensures)))
+    let right-placements = passes (placed-answers (sends .before .before .before)) (sends .before .enum-told .given .1) refl in
+    let right-sends = passes (sends .check-each .ensures) (receptions .before .enum-told2 .given .1) refl in
+    let right-receptions = passes (receptions .check-each2 .ensures) (c .before .enum-told3 .given .1) refl in
+    after right-placements (after right-sends (after right-receptions (c .check-each3 .ensures)))
 
 pub check-module-spec : {M : Type 1} → statement M
 check-module-spec =

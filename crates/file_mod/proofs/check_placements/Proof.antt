@@ -1,7 +1,8 @@
 -- The counts are the placements of each signal, so the smallest not counted once is the answer of 22 (`counted-placed`).
-use mathlib.Core.Path.{_∙_}
 use native.Mathlib.Omega.{arith}
 use lib.ListN.{getD-replicate}
+use Rattle.file_lines.proofs.Stages.{renamed}
+use Rattle.file_mod_lines.proofs.Lines.{same-sizes}
 use Rattle.file_mod.proofs.Counts.{counted-placed}
 use borrow.Author.Needs.{needs}
 use Rattle.file_mod.proofs.check_placements.Statement.{statement}
@@ -14,8 +15,9 @@ returns : tie.Need-returns
 returns c =
     let s = c .before .before .before .before .before .before in
     let count-signals = c .before .before .before .count-signals in
-    let find-unplaced = c .find-unplaced in
-    λ n e. record { refusal = find-unplaced .ensures .refusal ∙ counted-placed _ _ _ (s .pre .1) (count-signals .ensures) n e; sizes = find-unplaced .ensures .sizes }
+    let sized = s .pre .0 .sized in
+    λ n e.
+    renamed (same-sizes (sized .processors) (sized .slots)) (counted-placed _ _ _ (s .pre .1) (count-signals .ensures) n e) (c .find-unplaced .ensures)
 
 pub check-placements-spec : {M : Type 1} → statement M
 check-placements-spec =

@@ -10,11 +10,11 @@ use Rattle.file_mod.proofs.count_signals.Statement.{statement}
 use Rattle.file_mod.proofs.count_signals.Tie as tie
 
 abbrev Inv-loop : tie.InvT-loop
-Inv-loop modfile processors slots counts₀ lines k₀ counts k =
+Inv-loop modfile shape counts₀ lines k₀ counts k =
     (k ≤ lines) × (length counts ≡ length counts₀) × ((s : ℕ) → s ≤ 4096 → getD counts s 0 ≡ counted modfile k s)
 
 abbrev μ-loop : tie.MeasureT-loop
-μ-loop modfile processors slots counts₀ lines k₀ counts k = lines - k
+μ-loop modfile shape counts₀ lines k₀ counts k = lines - k
 
 loop-holds : tie.Need-loop-holds Inv-loop μ-loop
 unfolding total

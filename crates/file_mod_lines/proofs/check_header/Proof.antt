@@ -1,60 +1,49 @@
--- A law of `Header` for each way: 20 where line 1 is broken, 21 where a size or one of the zeros is wrong, else it passes.
-use mathlib.Core.Path.{sym, _∙_}
+-- 20 where line 1 is broken, 21 where its layout is wrong, else P and C are accepted.
+use mathlib.Core.Path.{_≡_, refl, sym, _∙_}
+use mathlib.Core.Bool.{true}
 use native.Mathlib.Omega.{arith}
-use Rattle.file_mod_lines.proofs.Header.{field-of-line, line-read, header-broken, sizes-wrong, zeros-wrong, header-right}
+use borrow.Author.Tests.{not-true, not-false}
+use Rattle.fields.specs.Line.{isLineAt}
+use Rattle.fields.proofs.Lines.{line-right, line-wrong}
+use Rattle.model.specs.ModuleFile.{modHeader}
+use Rattle.model.proofs.Refusals.{unless-pass}
+use Rattle.file_lines.proofs.Fields.{field-of-line}
+use Rattle.file_lines.proofs.Stages.{refused, accepted}
+use Rattle.file_lines.proofs.Lines.{test-stops, test-goes-on, test-fails}
+use Rattle.file_mod_lines.proofs.Lines.{same-sizes}
 use borrow.Author.Needs.{needs}
 use Rattle.file_mod_lines.proofs.check_header.Statement.{statement}
 use Rattle.file_mod_lines.proofs.check_header.Tie as tie
 
 returns : tie.Need-returns
-returns c = record { refusal = sym (header-broken _ (sym (c .before .before .read-line .ensures) ∙ c .enum-told2 .given .1)); sizes = tt }
+unfolding modHeader
+returns c = refused refl (test-stops _ 20 1 _ (line-wrong _ 0 14 (sym (c .before .before .read-line .ensures) ∙ c .enum-told2 .given .1)))
 
-number-at-requires : tie.Need-number-at-requires
-number-at-requires c κs =
-    let line = line-read _ 0 14 _ (sym (c .before .before .read-line .ensures) ∙ c .enum-told .given .1) in
-    field-of-line _ 0 14 line 0 0 (omega arith) (omega arith)
+-- line 1 has its form
+form : (c : tie.After-enum-told) → isLineAt (c .before .before .before .before .args .modfile .now) 0 14 ≡ true
+form c = line-right _ 0 14 _ (sym (c .before .before .read-line .ensures) ∙ c .enum-told .given .1)
 
-number-at-requires-2 : tie.Need-number-at-requires-2
-number-at-requires-2 c κs =
-    let told = c .before in
-    let line = line-read _ 0 14 _ (sym (told .before .before .read-line .ensures) ∙ told .enum-told .given .1) in
-    field-of-line _ 0 14 line 1 6 (omega arith) (omega arith)
+header-laid-requires : tie.Need-header-laid-requires
+header-laid-requires c κs = form c
 
 returns-2 : tie.Need-returns-2
+unfolding modHeader
 returns-2 c =
-    let sizes = c .before in
-    let read = sizes .before in
-    let told = read .before .before in
-    let line = line-read _ 0 14 _ (sym (told .before .before .read-line .ensures) ∙ told .enum-told .given .1) in
-    let wrong = sizes-wrong _ line _ _ (read .before .number-at .ensures) (read .number-at2 .ensures) _ (sizes .sizes-right .ensures) (c .if1 .taken) in
-    record { refusal = sym wrong; sizes = tt }
+    let laid = c .before in
+    refused refl (test-goes-on _ 20 1 _ (form (laid .before)) ∙ test-fails _ 21 1 (sym (laid .header-laid .ensures) ∙ not-true _ (c .if1 .taken)))
 
-twelve-zeros-requires : tie.Need-twelve-zeros-requires
-twelve-zeros-requires c κs =
-    let told = c .before .before .before .before in
-    line-read _ 0 14 _ (sym (told .before .before .read-line .ensures) ∙ told .enum-told .given .1)
+number-at-requires : tie.Need-number-at-requires
+number-at-requires c κs = field-of-line _ 0 14 (form (c .before .before)) 0 0 (omega arith) refl
+
+number-at-requires-2 : tie.Need-number-at-requires-2
+number-at-requires-2 c κs = field-of-line _ 0 14 (form (c .before .before .before)) 1 6 (omega arith) refl
 
 returns-3 : tie.Need-returns-3
+unfolding modHeader
 returns-3 c =
-    let zeros = c .before in
-    let sizes = zeros .before .before in
-    let read = sizes .before in
-    let told = read .before .before in
-    let line = line-read _ 0 14 _ (sym (told .before .before .read-line .ensures) ∙ told .enum-told .given .1) in
-    let judged = zeros-wrong _ line _ _ (read .before .number-at .ensures) (read .number-at2 .ensures) _ (sizes .sizes-right .ensures) in
-    record { refusal = sym (judged (zeros .before .if1 .left) _ (zeros .twelve-zeros .ensures) (c .if2 .taken)); sizes = tt }
-
-returns-4 : tie.Need-returns-4
-returns-4 c =
-    let zeros = c .before in
-    let sizes = zeros .before .before in
-    let read = sizes .before in
-    let told = read .before .before in
-    let line = line-read _ 0 14 _ (sym (told .before .before .read-line .ensures) ∙ told .enum-told .given .1) in
-    let processors = read .before .number-at .ensures in
-    let slots = read .number-at2 .ensures in
-    let right = header-right _ line _ _ processors slots _ (sizes .sizes-right .ensures) (zeros .before .if1 .left) _ (zeros .twelve-zeros .ensures) (c .if2 .left) in
-    record { refusal = sym right; sizes = (processors, slots) }
+    let laid = c .before .before .before in
+    accepted (same-sizes (c .before .number-at .ensures) (c .number-at2 .ensures)) refl
+    (test-goes-on _ 20 1 _ (form (laid .before)) ∙ unless-pass _ 21 1 (sym (laid .header-laid .ensures) ∙ not-false _ (c .before .before .if1 .left)))
 
 pub check-header-spec : {M : Type 1} → statement M
 check-header-spec =
@@ -64,10 +53,8 @@ check-header-spec =
     (λ c. search needs)
     (λ c. search needs)
     returns
+    header-laid-requires
+    returns-2
     number-at-requires
     number-at-requires-2
-    (λ c κs. search needs)
-    returns-2
-    twelve-zeros-requires
-    returns-3
-    returns-4)
+    returns-3)

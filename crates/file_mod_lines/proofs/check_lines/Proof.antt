@@ -1,102 +1,126 @@
--- The invariants: the lines before line k pass, and the first fields of line k are right. Each way out of the loops has its own answer.
-use Prim.Native.Nat.{_+_, _*_, _-_, _≤_}
+-- The invariants: the lines before line k pass, and its first fields are right. Each way out of the loops has its own answer.
+use Prim.Native.Nat.{_≤_, _-_, _+_, _*_, _/_, _%_}
 use mathlib.Core.Path.{_≡_, refl, sym, _∙_, ap}
 use mathlib.Core.Bool.{true}
 use native.Mathlib.Omega.{arith}
-use Rattle.logic.specs.Test.{all}
-use Rattle.fields.specs.Field.{isFieldAt}
-use Rattle.model.specs.Refusal.{firstBelow}
-use Rattle.file_mod_lines.specs.declared.ModAnswer.the-variants.{Accepted}
 use borrow.Author.Tests.{not-true, not-false}
+use Rattle.fields.specs.Line.{isLineAt}
+use Rattle.fields.proofs.Lines.{FieldsRight, fields-begin, fields-stop, fields-go-on, fields-end}
+use Rattle.model.specs.Refusal.{firstBelow}
+use Rattle.model.specs.Network.{Network}
+use Rattle.model.specs.ModuleFile.{modProcessors, modSlots, eachLine}
+use Rattle.file_lines.proofs.Lines.{lines-go-on, lines-stop, lines-end}
 use Rattle.file_mod_lines.specs.Answer.{modRefusal}
-use Rattle.file_mod_lines.proofs.Lines.{LinesPass, below-goes-on, field-stops, field-goes-on, line-unended, line-whole, lines-pass, lines-stop, slot-misformed, slot-wrong, slot-right}
+use Rattle.file_mod_lines.specs.Layout.{lineAt}
+use Rattle.file_mod_lines.specs.declared.ModAnswer.the-variants.{Accepted}
+use Rattle.file_mod_lines.proofs.Lines.{LinesPass, line-total, same-sizes, misformed, layout-wrong, slot-passes}
 use borrow.Author.Needs.{needs}
 use Rattle.file_mod_lines.proofs.check_lines.Statement.{statement}
 use Rattle.file_mod_lines.proofs.check_lines.Tie as tie
 
 abbrev Inv-loop : tie.InvT-loop
-Inv-loop modfile signals processors slots lines answer₀ k at column₀ answer column =
-    (answer ≡ answer₀) × (column ≤ 14) × (all column (λ j. isFieldAt modfile (at + 6 * j)) ≡ true)
+Inv-loop modfile signals shape lines answer₀ k line at₀ column₀ answer at column =
+    (answer ≡ answer₀) × FieldsRight modfile line 14 column at
 
 abbrev μ-loop : tie.MeasureT-loop
-μ-loop modfile signals processors slots lines answer₀ k at column₀ answer column = 14 - column
+μ-loop modfile signals shape lines answer₀ k line at₀ column₀ answer at column = 14 - column
 
 abbrev Inv-lines : tie.InvT-lines
-Inv-lines modfile signals processors slots lines answer₀ k₀ answer k =
-    (answer ≡ Accepted processors slots) × (k ≤ lines) × LinesPass signals modfile k
+Inv-lines modfile signals shape lines answer₀ k₀ answer k =
+    (answer ≡ Accepted (shape .processors) (shape .slots)) × (k ≤ lines) × LinesPass signals modfile k
 
 abbrev μ-lines : tie.MeasureT-lines
-μ-lines modfile signals processors slots lines answer₀ k₀ answer k = lines - k
+μ-lines modfile signals shape lines answer₀ k₀ answer k = lines - k
 
 lines-holds : tie.Need-lines-holds Inv-loop μ-loop Inv-lines μ-lines
-unfolding all firstBelow
-lines-holds c = search needs
+unfolding firstBelow
+lines-holds c = (refl, omega arith, λ n e. refl)
 
 loop-holds : tie.Need-loop-holds Inv-loop μ-loop Inv-lines μ-lines
-unfolding all firstBelow
-loop-holds c = search needs
+loop-holds c = (refl, fields-begin refl)
 
 loop-again : tie.Need-loop-again Inv-loop μ-loop Inv-lines μ-lines
 loop-again c =
-    let fields = c .before .before .before .before .loop .inv in
-    let number = sym (c .before .before .read-field .ensures) ∙ c .enum-told .given .1 in
-    (fields .0, omega arith, field-goes-on _ _ _ (fields .2) number)
+    let read = c .before .before .before in
+    let fields = read .before .before .loop .inv in
+    (fields .0, fields-go-on (fields .1) (read .before .loop-test .taken) (sym (read .read-field .ensures) ∙ c .before .next .given .1))
+
+-- the line is right where all its fields are and byte 10 ends it
+form : (c : tie.Else1 Inv-loop μ-loop Inv-lines μ-lines)
+    → let line = c .before .before .before .before .before in
+    isLineAt (line .before .before .before .args .modfile .now) (85 * (line .lines .k + 1)) 14 ≡ true
+form c =
+    let ended = c .before in
+    fields-end (ended .before .before .loop .inv .1) (ended .before .loop-test .left) (ended .ends-line .ensures) ∙ not-false _ (c .if1 .left)
 
 line-laid-requires : tie.Need-line-laid-requires Inv-loop μ-loop Inv-lines μ-lines
-line-laid-requires c κs =
-    let ended = c .before .before .before in
-    let fields = ended .before .before .loop .inv in
-    line-whole _ _ _ (fields .1) (ended .before .loop-test .left) (fields .2) _ (ended .ends-line .ensures) (not-false _ (c .before .before .if1 .left))
+line-laid-requires c κs = form (c .before)
+
+-- how many lines there are
+total : (c : tie.At-lines Inv-loop μ-loop Inv-lines μ-lines)
+    → let modfile = c .before .before .before .args .modfile .now in c .before .line-count .result ≡ modProcessors modfile * modSlots modfile
+total c = c .before .line-count .ensures .0 ∙ line-total _ _ _ (c .before .before .before .pre)
+
+-- what its layout was judged to be
+laid : (c : tie.After-line-laid Inv-loop μ-loop Inv-lines μ-lines)
+    → let line = c .before .before .before .before .before .before .before in
+    let a = line .before .before .before .args in
+    let k = line .lines .k in
+    let slots = a .shape .slots in
+    (n : Network) → n .size ≡ a .signals
+    → c .line-laid .result ≡ lineAt (a .modfile .now) (85 * (k + 1)) (k / slots) (k % slots) (n .size) (a .shape .processors) slots
+laid c n e = rw (e, ← c .before .place-of .ensures .0, ← c .before .place-of .ensures .1) (c .line-laid .ensures)
 
 lines-again : tie.Need-lines-again Inv-loop μ-loop Inv-lines μ-lines
 lines-again c =
     let judged = c .before in
-    let ended = judged .before .before .before .before in
-    let fields = ended .before .before .loop .inv in
-    let lines = ended .before .before .before .before .lines in
-    let s = ended .before .before .before .before .before .before .before in
-    let right = line-whole _ _ _ (fields .1) (ended .before .loop-test .left) (fields .2) _ (ended .ends-line .ensures) (not-false _ (judged .before .before .before .if1 .left)) in
-    let passes = slot-right (s .args .modfile .now) (lines .k) (85 * (lines .k + 1)) refl in
-    (fields .0 ∙ lines .inv .0, omega arith, λ n e. below-goes-on _ _ (lines .inv .2 n e) (passes n right (judged .line-laid .result) (cc) (not-false _ (c .if2 .left))))
+    let ended = judged .before .before in
+    let fields = ended .before .before .before .loop .inv in
+    let line = ended .before .before .before .before .before in
+    let start = line .before .before .before in
+    let right = not-false _ (c .if2 .left) in (
+      fields .0 ∙ line .lines .inv .0,
+      omega arith,
+      λ n e. lines-go-on _ _ (line .lines .inv .2 n e) (slot-passes _ _ n (form ended) _ _ (start .pre) _ (laid judged n e) right),
+    )
 
 returns : tie.Need-returns Inv-loop μ-loop Inv-lines μ-lines
-returns c =
-    let lines = c .before .lines .inv in
-    let s = c .before .before .before .before in
-    let pass = lines-pass _ _ _ (s .pre) _ _ _ (c .before .before .line-count .ensures .0) (lines .2) in
-    λ n e. record { refusal = ap modRefusal (lines .0) ∙ sym (pass n e (lines .1) (c .lines-test .left)); sizes = rw (lines .0) (refl, refl) }
+unfolding eachLine
+returns c n e =
+    let line = c .before in
+    let i = line .lines .inv in
+    let start = line .before .before .before in
+    lines-end _ _ (i .2 n e) _ (omega (arith, total line)) (omega (arith, total line))
+    (i .0 ∙ same-sizes (start .pre .processors) (start .pre .slots)) (ap modRefusal (i .0))
 
+-- a field that is wrong
 returns-2 : tie.Need-returns-2 Inv-loop μ-loop Inv-lines μ-lines
-returns-2 c =
-    let field = c .before .before in
-    let line = field .before .before .before in
-    let s = line .before .before .before .before in
-    let stop = lines-stop _ _ _ (s .pre) _ _ _ (line .before .before .line-count .ensures .0) (line .before .lines .inv .2) in
-    let broken = field-stops _ _ _ (field .before .loop-test .taken) (sym (field .read-field .ensures) ∙ c .enum-told2 .given .1) in
-    λ n e. record { refusal = sym (stop n e (line .lines-test .taken) _ _ (slot-misformed _ _ _ refl n broken)); sizes = tt }
+unfolding eachLine
+returns-2 c n e =
+    let read = c .before .before in
+    let line = read .before .before .before .before in
+    let wrong = fields-stop (read .before .before .loop .inv .1) (read .before .loop-test .taken) (sym (read .read-field .ensures) ∙ c .enum-told .given .1) in
+    lines-stop _ _ (line .lines .inv .2 n e) _ (omega (arith, total line)) refl (misformed _ _ n wrong)
 
+-- another byte than 10
 returns-3 : tie.Need-returns-3 Inv-loop μ-loop Inv-lines μ-lines
-returns-3 c =
+unfolding eachLine
+returns-3 c n e =
     let ended = c .before in
-    let fields = ended .before .before .loop .inv in
-    let line = ended .before .before .before in
-    let s = line .before .before .before .before in
-    let stop = lines-stop _ _ _ (s .pre) _ _ _ (line .before .before .line-count .ensures .0) (line .before .lines .inv .2) in
-    let broken = line-unended _ _ _ (fields .1) (ended .before .loop-test .left) (fields .2) _ (ended .ends-line .ensures) (not-true _ (c .if1 .taken)) in
-    λ n e. record { refusal = sym (stop n e (line .lines-test .taken) _ _ (slot-misformed _ _ _ refl n broken)); sizes = tt }
+    let line = ended .before .before .before .before in
+    let wrong = fields-end (ended .before .before .loop .inv .1) (ended .before .loop-test .left) (ended .ends-line .ensures) ∙ not-true _ (c .if1 .taken) in
+    lines-stop _ _ (line .lines .inv .2 n e) _ (omega (arith, total line)) refl (misformed _ _ n wrong)
 
+-- a wrong layout
 returns-4 : tie.Need-returns-4 Inv-loop μ-loop Inv-lines μ-lines
-returns-4 c =
+unfolding eachLine
+returns-4 c n e =
     let judged = c .before in
-    let ended = judged .before .before .before .before in
-    let fields = ended .before .before .loop .inv in
-    let line = ended .before .before .before in
-    let lines = line .before .lines in
-    let s = line .before .before .before .before in
-    let stop = lines-stop _ _ _ (s .pre) _ _ _ (line .before .before .line-count .ensures .0) (lines .inv .2) in
-    let right = line-whole _ _ _ (fields .1) (ended .before .loop-test .left) (fields .2) _ (ended .ends-line .ensures) (not-false _ (judged .before .before .before .if1 .left)) in
-    let wrong = slot-wrong (s .args .modfile .now) (lines .k) (85 * (lines .k + 1)) refl in
-    λ n e. record { refusal = sym (stop n e (line .lines-test .taken) _ _ (wrong n right (judged .line-laid .result) (cc) (not-true _ (c .if2 .taken)))); sizes = tt }
+    let ended = judged .before .before in
+    let line = ended .before .before .before .before .before in
+    let start = line .before .before .before in
+    lines-stop _ _ (line .lines .inv .2 n e) _ (omega (arith, total line)) refl
+    (layout-wrong _ _ n (form ended) _ _ (start .pre) _ (laid judged n e) (not-true _ (c .if2 .taken)))
 
 pub check-lines-spec : {M : Type 1} → statement M
 check-lines-spec =
@@ -111,8 +135,6 @@ check-lines-spec =
     (λ c. search needs)
     (λ c. search needs)
     loop-holds
-    (λ c. search needs)
-    (λ c. search needs)
     (λ c κs. search needs)
     (λ c. search needs)
     (λ c. search needs)
@@ -121,11 +143,9 @@ check-lines-spec =
     (λ c. search needs)
     (λ c. search needs)
     loop-again
-    (λ c. search needs)
     (λ c κs. search needs)
     (λ c. search needs)
     (λ c. search needs)
-    (λ c κs. search needs)
     (λ c κs. search needs)
     line-laid-requires
     (λ c. search needs)

@@ -6,10 +6,10 @@ use Rattle.file_mod_lines.proofs.line_count.Statement.{statement}
 use Rattle.file_mod_lines.proofs.line_count.Tie as tie
 
 mul-result : tie.Need-mul-result
-mul-result c = omega (arith, mul-le-mul (c .pre .0) (c .pre .1))
+mul-result c = omega (arith, mul-le-mul (c .before .before .pre .0) (c .before .before .pre .1))
 
 returns : tie.Need-returns
-returns c = (search needs, omega (arith, mul-le-mul (c .pre .0) (c .pre .1)))
+returns c = (search needs, omega (arith, mul-le-mul (c .before .before .pre .0) (c .before .before .pre .1)))
 
 pub line-count-spec : {M : Type 1} → statement M
-line-count-spec = tie.close (tie.spec mul-result returns)
+line-count-spec = tie.close (tie.spec (λ c. search needs) (λ c. search needs) mul-result returns)

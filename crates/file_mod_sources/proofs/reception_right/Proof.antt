@@ -9,10 +9,10 @@ returns : tie.Need-returns
 returns c = reception-none _ _ _ _ (c .before .sender-at .ensures) (c .if1 .taken)
 
 send-part-at-requires : tie.Need-send-part-at-requires
-send-part-at-requires c κs = sender-line _ _ _ _ (c .before .before .before .pre) _ (c .before .sender-at .ensures) (c .if1 .left)
+send-part-at-requires c κs = sender-line _ _ _ _ (c .before .before .before .before .pre) _ (c .before .before .sender-at .ensures) (c .before .if1 .left)
 
 returns-2 : tie.Need-returns-2
-returns-2 c = reception-sent _ _ _ _ (c .before .before .sender-at .ensures) (c .before .if1 .left) _ (c .send-part-at .ensures)
+returns-2 c = reception-sent _ _ _ _ (c .before .before .before .sender-at .ensures) (c .before .before .if1 .left) _ (c .send-part-at .ensures)
 
 pub reception-right-spec : {M : Type 1} → statement M
 reception-right-spec =

@@ -23,10 +23,10 @@ returns-3 c =
 
 returns-4 : tie.Need-returns-4
 returns-4 c =
-    let location = c .before .before .before .send-location-at .ensures .0 in
-    let if1 = c .before .before .before .before .if1 in
-    let part = c .before .before .before .before .before .send-part-at .ensures in
-    send-present _ _ _ _ part (if1 .left) _ _ location (c .before .before .signal-at .ensures) (c .before .if2 .left) (c .if3 .left)
+    let location = c .before .before .before .before .send-location-at .ensures .0 in
+    let if1 = c .before .before .before .before .before .if1 in
+    let part = c .before .before .before .before .before .before .send-part-at .ensures in
+    send-present _ _ _ _ part (if1 .left) _ _ location (c .before .before .before .signal-at .ensures) (c .before .before .if2 .left) (c .before .if3 .left)
 
 pub send-right-spec : {M : Type 1} → statement M
 send-right-spec =

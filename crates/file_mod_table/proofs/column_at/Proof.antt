@@ -8,12 +8,12 @@ use Rattle.file_mod_table.proofs.column_at.Tie as tie
 number-at-requires : tie.Need-number-at-requires
 number-at-requires c κs =
     let s = c .before .before in
-    field-laid _ _ _ _ (s .pre .0) _ (c .line-place .ensures .0) (s .args .column) (s .pre .1)
+    field-laid _ _ _ _ (s .pre .0) _ (c .line-at .ensures .0) (s .args .column) (s .pre .1)
 
 returns : tie.Need-returns
 returns c =
     let s = c .before .before .before in
-    c .number-at .ensures ∙ field-read _ _ _ _ (s .pre .0) _ (c .before .line-place .ensures .0) (s .args .column)
+    c .number-at .ensures ∙ field-read _ _ _ _ (s .pre .0) _ (c .before .line-at .ensures .0) (s .args .column)
 
 pub column-at-spec : {M : Type 1} → statement M
 column-at-spec =

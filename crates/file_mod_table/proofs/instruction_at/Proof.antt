@@ -6,9 +6,9 @@ use borrow.Author.Needs.{needs}
 use Rattle.file_mod_table.proofs.instruction_at.Statement.{statement}
 use Rattle.file_mod_table.proofs.instruction_at.Tie as tie
 
-cast-t12 : tie.Need-cast-t12
+cast-t11 : tie.Need-cast-t11
 unfolding moduleOf
-cast-t12 c =
+cast-t11 c =
     let s = c .before .before .before .before .before .before .before .before in
     omega (arith, c .sender-at .ensures, sender-small _ _ _ _ (s .pre))
 
@@ -18,7 +18,7 @@ returns c =
     let fourth = c .before .before in
     let second = fourth .before .before in
     let s = second .before .before .before .before in
-    instruction-made (moduleOf (s .args .modfile .now)) (s .args .processor) (s .args .slot) _ _ _ _ _ _ _ (second .before .before .signal-at .ensures) (second .before .pair-at .ensures) (second .pair-at2 .ensures)
+    instruction-made (moduleOf (s .args .modfile .now)) (s .args .place .processor) (s .args .place .slot .0) _ _ _ _ _ _ _ (second .before .before .signal-at .ensures) (second .before .pair-at .ensures) (second .pair-at2 .ensures)
     (fourth .before .pair-at3 .ensures) (fourth .pair-at4 .ensures) (c .before .pair-at5 .ensures) (c .sender-at .ensures)
 
 pub instruction-at-spec : {M : Type 1} → statement M
@@ -32,5 +32,5 @@ instruction-at-spec =
     (λ c κs. search needs)
     (λ c κs. search needs)
     (λ c κs. search needs)
-    cast-t12
+    cast-t11
     returns)

@@ -1,56 +1,52 @@
--- The invariants: the lines before `line` pass, and its first `column` fields are right. Each way out of the loops has
--- its own answer: `judged-10`, `judged-11`, `judged-12`, `judged-all`.
-use Prim.Native.Nat.{suc, _≤_, _-_, _+_, _*_}
-use mathlib.Core.Path.{_≡_, sym, _∙_}
-use mathlib.Core.Logic.{⊎-elim}
+-- The invariants: the lines before line k pass, and its first fields are right. Each way out of the loops has its own answer.
+use Prim.Native.Nat.{_≤_, _-_, _+_, _*_}
+use mathlib.Core.Path.{_≡_, refl, sym, _∙_, ap}
 use mathlib.Core.Bool.{true}
 use native.Mathlib.Omega.{arith}
 use borrow.Author.Tests.{not-true, not-false}
-use Rattle.logic.specs.Test.{all}
-use Rattle.fields.specs.Field.{isFieldAt}
 use Rattle.fields.specs.Line.{isLineAt}
-use Rattle.fields.proofs.Lines.{line-goes-on}
+use Rattle.fields.proofs.Lines.{FieldsRight, fields-begin, fields-stop, fields-go-on, fields-end}
 use Rattle.model.specs.Refusal.{pass, firstBelow}
-use Rattle.model.specs.Netlist.{netSignal}
-use Rattle.file_net.proofs.Faults.{form-stops, form-unended, form-right, judged-10, judged-11, judged-12, judged-all, one-more}
+use Rattle.file_lines.proofs.Lines.{lines-go-on, lines-stop, lines-end}
+use Rattle.file_net.specs.Answer.{netRefusal}
+use Rattle.file_net.specs.declared.NetAnswer.the-variants.{Accepted}
+use Rattle.file_net.proofs.Lines.{signals, misformed, layout-wrong, sources-wrong, signal-passes}
 use borrow.Author.Needs.{needs}
 use Rattle.file_net.proofs.check_lines.Statement.{statement}
 use Rattle.file_net.proofs.check_lines.Tie as tie
 
 abbrev Inv-loop : tie.InvT-loop
-Inv-loop net size line fault₀ at₀ column₀ fault at column =
-    (column ≤ 12) × (at ≡ 73 * line + 6 * column) × (all column (λ k. isFieldAt net (73 * line + 6 * k)) ≡ true) × (fault ≡ fault₀)
+Inv-loop net size answer₀ k signal at₀ column₀ answer at column = (answer ≡ answer₀) × FieldsRight net (73 * signal) 12 column at
 
 abbrev μ-loop : tie.MeasureT-loop
-μ-loop net size line fault₀ at₀ column₀ fault at column = 12 - column
+μ-loop net size answer₀ k signal at₀ column₀ answer at column = 12 - column
 
 abbrev Inv-lines : tie.InvT-lines
-Inv-lines net size line₀ fault₀ line fault =
-    (1 ≤ line) × (line ≤ size + 1) × (fault ≡ 0) × (firstBelow (line - 1) (λ k. netSignal net (suc k)) ≡ pass)
+Inv-lines net size answer₀ k₀ answer k = (answer ≡ Accepted size) × (k ≤ size) × (firstBelow k (signals net) ≡ pass)
 
 abbrev μ-lines : tie.MeasureT-lines
-μ-lines net size line₀ fault₀ line fault = size + 1 - line
+μ-lines net size answer₀ k₀ answer k = size - k
 
 lines-holds : tie.Need-lines-holds Inv-loop μ-loop Inv-lines μ-lines
 unfolding firstBelow
-lines-holds c = search needs
+lines-holds c = (refl, omega arith, refl)
 
 loop-holds : tie.Need-loop-holds Inv-loop μ-loop Inv-lines μ-lines
-unfolding all
-loop-holds c = search needs
+loop-holds c = (refl, fields-begin refl)
 
 loop-again : tie.Need-loop-again Inv-loop μ-loop Inv-lines μ-lines
 loop-again c =
-    let i = c .before .before .before .before .before .loop .inv in
-    let next = line-goes-on _ _ _ _ (i .1) _ _ (i .2) (sym (c .before .before .before .read-field .ensures) ∙ c .before .next .given .1) in
-    (omega arith, next .0, next .1, i .3)
+    let read = c .before .before .before in
+    let fields = read .before .before .loop .inv in
+    (fields .0, fields-go-on (fields .1) (read .before .loop-test .taken) (sym (read .read-field .ensures) ∙ c .before .next .given .1))
 
 -- the line is right where all its fields are and byte 10 ends it
 form : (c : tie.Else1 Inv-loop μ-loop Inv-lines μ-lines)
-    → isLineAt (c .before .before .before .before .before .before .before .args .net .now) (73 * c .before .before .before .before .before .lines .line) 12 ≡ true
+    → let line = c .before .before .before .before .before in
+    isLineAt (line .before .before .args .net .now) (73 * (line .lines .k + 1)) 12 ≡ true
 form c =
-    let i = c .before .before .before .loop .inv in
-    form-right _ _ _ _ (i .1) (i .0) (c .before .before .loop-test .left) (i .2) (sym (c .before .ends-line .ensures) ∙ not-false _ (c .if1 .left))
+    let ended = c .before in
+    fields-end (ended .before .before .loop .inv .1) (ended .before .loop-test .left) (ended .ends-line .ensures) ∙ not-false _ (c .if1 .left)
 
 signal-layout-requires : tie.Need-signal-layout-requires Inv-loop μ-loop Inv-lines μ-lines
 signal-layout-requires c κs = (omega arith, form c)
@@ -62,33 +58,57 @@ sources-right-requires c κs =
 
 lines-again : tie.Need-lines-again Inv-loop μ-loop Inv-lines μ-lines
 lines-again c =
-    let fields = c .before .before .before .before .before .before .before in
-    let lines = fields .before .before in
-    let i = lines .lines .inv in (
+    let laid = c .before .before .before in
+    let fields = laid .before .before .before .before .loop .inv in
+    let line = laid .before .before .before .before .before .before in
+    let right = signal-passes _ _ (form (laid .before)) (sym (laid .signal-layout .ensures) ∙ not-false _ (c .before .before .if2 .left)) in (
+      fields .0 ∙ line .lines .inv .0,
       omega arith,
-      omega arith,
-      fields .loop .inv .3 ∙ i .2,
-      one-more _ (lines .before .before .args .size) _ (i .0) (i .3) (form (c .before .before .before .before))
-          (sym (c .before .before .before .signal-layout .ensures) ∙ not-false _ (c .before .before .if2 .left))
-          (sym (c .before .sources-right .ensures) ∙ not-false _ (c .if3 .left)),
+      lines-go-on _ _ (line .lines .inv .2) (right (sym (c .before .sources-right .ensures) ∙ not-false _ (c .if3 .left))),
     )
 
 returns : tie.Need-returns Inv-loop μ-loop Inv-lines μ-lines
 returns c =
-    let i = c .before .before .lines .inv in
-    let e = c .answer-of .ensures in
-    ⊎-elim
-    (λ w. judged-all _ _ _ (i .0) (i .3) _ _ e (w .1 ∙ i .2) (i .1) (w .0 .left))
-    (⊎-elim
-    (λ w. judged-10 _ _ _ (i .0) (i .3) _ _ e (w .6) (w .0 .taken)
-    (form-stops _ _ _ _ (w .1 .inv .1) (w .2 .taken) (cc)))
-    (⊎-elim
-    (λ w. judged-10 _ _ _ (i .0) (i .3) _ _ e (w .5) (w .0 .taken)
-    (form-unended _ _ _ _ (w .1 .inv .1) (w .1 .inv .0) (w .2 .left) (w .1 .inv .2) (sym (w .3 .ensures) ∙ not-true _ (w .4 .taken))))
-    (⊎-elim
-    (λ w. judged-11 _ _ _ (i .0) (i .3) _ _ e (form-right _ _ _ _ (w .1 .inv .1) (w .1 .inv .0) (w .2 .left) (w .1 .inv .2) (sym (w .3 .ensures) ∙ not-false _ (w .4 .left))) (w .7) (w .0 .taken) (sym (w .5 .ensures) ∙ not-true _ (w .6 .taken)))
-    (λ w. judged-12 _ _ _ (i .0) (i .3) _ _ e (form-right _ _ _ _ (w .1 .inv .1) (w .1 .inv .0) (w .2 .left) (w .1 .inv .2) (sym (w .3 .ensures) ∙ not-false _ (w .4 .left))) (w .9) (w .0 .taken) (sym (w .5 .ensures) ∙ not-false _ (w .6 .left)) (sym (w .7 .ensures) ∙ not-true _ (w .8 .taken))))))
-    (c .before .lines-test .came)
+    let i = c .before .lines .inv in
+    let size = c .before .before .before .pre .0 in
+    lines-end _ _ (i .2) _ (omega (arith, size)) (omega (arith, size)) (i .0 ∙ ap Accepted size) (ap netRefusal (i .0))
+
+-- a field that is wrong
+returns-2 : tie.Need-returns-2 Inv-loop μ-loop Inv-lines μ-lines
+returns-2 c =
+    let read = c .before .before in
+    let line = read .before .before .before .before in
+    let size = line .before .before .pre .0 in
+    let wrong = fields-stop (read .before .before .loop .inv .1) (read .before .loop-test .taken) (sym (read .read-field .ensures) ∙ c .enum-told .given .1) in
+    lines-stop _ _ (line .lines .inv .2) _ (omega (arith, size)) refl (misformed _ _ wrong)
+
+-- another byte than 10
+returns-3 : tie.Need-returns-3 Inv-loop μ-loop Inv-lines μ-lines
+returns-3 c =
+    let ended = c .before in
+    let line = ended .before .before .before .before in
+    let size = line .before .before .pre .0 in
+    let wrong = fields-end (ended .before .before .loop .inv .1) (ended .before .loop-test .left) (ended .ends-line .ensures) ∙ not-true _ (c .if1 .taken) in
+    lines-stop _ _ (line .lines .inv .2) _ (omega (arith, size)) refl (misformed _ _ wrong)
+
+-- a wrong layout
+returns-4 : tie.Need-returns-4 Inv-loop μ-loop Inv-lines μ-lines
+returns-4 c =
+    let laid = c .before in
+    let line = laid .before .before .before .before .before .before in
+    let size = line .before .before .pre .0 in
+    lines-stop _ _ (line .lines .inv .2) _ (omega (arith, size)) refl
+    (layout-wrong _ _ (form (laid .before)) (sym (laid .signal-layout .ensures) ∙ not-true _ (c .if2 .taken)))
+
+-- a wrong source
+returns-5 : tie.Need-returns-5 Inv-loop μ-loop Inv-lines μ-lines
+returns-5 c =
+    let laid = c .before .before .before in
+    let line = laid .before .before .before .before .before .before in
+    let size = line .before .before .pre .0 in
+    let right = sources-wrong _ _ (form (laid .before)) (sym (laid .signal-layout .ensures) ∙ not-false _ (c .before .before .if2 .left)) in
+    lines-stop _ _ (line .lines .inv .2) _ (omega (arith, size)) refl
+    (right (sym (c .before .sources-right .ensures) ∙ not-true _ (c .if3 .taken)))
 
 pub check-lines-spec : {M : Type 1} → statement M
 check-lines-spec =
@@ -100,18 +120,30 @@ check-lines-spec =
     μ-lines
     lines-holds
     (λ c. search needs)
+    (λ c. search needs)
     loop-holds
     (λ c κs. search needs)
     (λ c. search needs)
     (λ c. search needs)
     (λ c. search needs)
     (λ c. search needs)
+    (λ c. search needs)
+    (λ c. search needs)
     loop-again
     (λ c κs. search needs)
+    (λ c. search needs)
+    (λ c. search needs)
     signal-layout-requires
+    (λ c. search needs)
+    (λ c. search needs)
     sources-right-requires
     (λ c. search needs)
     (λ c. search needs)
+    (λ c. search needs)
+    (λ c. search needs)
     lines-again
-    (λ c κs. search needs)
-    returns)
+    returns
+    returns-2
+    returns-3
+    returns-4
+    returns-5)

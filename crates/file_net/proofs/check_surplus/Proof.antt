@@ -1,16 +1,19 @@
--- N + 1 lines of 73 bytes are all that NET may have: a longer file gives `surplus-some`, any other `surplus-none`.
-use mathlib.Core.Path.{refl}
-use Rattle.file_net.proofs.Faults.{refused, passed}
-use Rattle.file_net.proofs.Header.{surplus-none, surplus-some}
+-- N + 1 lines of 73 bytes are all that NET may have.
+use mathlib.Core.Path.{refl, ap}
+use Rattle.model.specs.Netlist.{netSurplus}
+use Rattle.file_lines.proofs.Lines.{surplus-some, surplus-none}
+use Rattle.file_net.specs.declared.NetAnswer.the-variants.{Accepted}
 use borrow.Author.Needs.{needs}
 use Rattle.file_net.proofs.check_surplus.Statement.{statement}
 use Rattle.file_net.proofs.check_surplus.Tie as tie
 
 returns : tie.Need-returns
-returns c = passed _ _ _ (surplus-none _ _ (c .before .pre .0) (c .if1 .taken)) refl
+unfolding netSurplus
+returns c = surplus-some (c .before .args .net .now) 73 _ 10 _ (c .before .pre .0) (c .if1 .taken) refl
 
 returns-2 : tie.Need-returns-2
-returns-2 c = refused _ _ _ 10 _ refl (surplus-some _ _ (c .before .pre .0) (c .if1 .left))
+unfolding netSurplus
+returns-2 c = surplus-none (c .before .args .net .now) 73 _ 10 _ (c .before .pre .0) (c .if1 .left) (ap Accepted (c .before .pre .0)) refl
 
 pub check-surplus-spec : {M : Type 1} → statement M
-check-surplus-spec = tie.close (tie.spec (λ c. search needs) (λ c. search needs) returns (λ c. search needs) returns-2)
+check-surplus-spec = tie.close (tie.spec (λ c. search needs) (λ c. search needs) (λ c. search needs) returns returns-2)

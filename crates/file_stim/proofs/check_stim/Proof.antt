@@ -1,97 +1,120 @@
--- `check_stim` meets its contract. The invariant of the lines: those below the index are passed (`Lines.Reached`), and the answer stands
--- for a line that is misformed or missing. The invariant of the fields: those below the field are right, with their numbers
--- (`Fields.FieldsRead`).
+-- The invariants: the lines below the index are passed, and its first fields are right. Each way out of the loops has its own answer.
 use Prim.Native.Nat.{_+_, _-_, _*_}
 use mathlib.Core.Path.{_≡_, refl, sym, _∙_}
 use mathlib.Core.Bool.{true}
 use native.Mathlib.Omega.{arith}
-use lib.Dec.{eqb}
-use lib.ListN.{getD}
+use lib.Dec.{leb}
+use lib.ListN.{length}
 use borrow.Author.Needs.{needs}
 use borrow.Author.Tests.{not-true, not-false}
-use Rattle.fields.specs.Line.{newline}
+use Rattle.fields.specs.Line.{isLineAt}
+use Rattle.fields.proofs.Lines.{FieldsRight, fields-begin, fields-stop, fields-go-on, fields-end}
 use Rattle.model.specs.Netlist.{network}
+use Rattle.model.specs.Stimulus.{stimLine}
+use Rattle.model.proofs.RightLine.{line-within}
 use Rattle.file_stim.specs.declared.StimAnswer.the-variants.{Misformed}
-use Rattle.file_stim.proofs.Lines.{Reached, reached-first, limit-reached, line-misread}
-use Rattle.file_stim.proofs.Fields.{FieldsRead, none-read, one-misread, one-read, line-is, judged-answers, judged-passed}
+use Rattle.file_stim.specs.Judging.{numbersOf, numbersBefore, judged}
+use Rattle.file_stim.proofs.Lines.{Reached, reached-first, limit-reached, misformed, line-answers, line-passed, next-before, judged-here}
 use Rattle.file_stim.proofs.check_stim.Statement.{statement}
 use Rattle.file_stim.proofs.check_stim.Tie as tie
 
 abbrev Inv-loop : tie.InvT-loop
-Inv-loop net stim answer before index place₀ numbers₀ field₀ place numbers field =
-    FieldsRead stim (19 * index) field place numbers
+Inv-loop net stim answer₀ before index at₀ column₀ answer at column = (answer ≡ answer₀) × FieldsRight stim (19 * index) 3 column at
 
 abbrev μ-loop : tie.MeasureT-loop
-μ-loop net stim answer before index place₀ numbers₀ field₀ place numbers field = 3 - field
+μ-loop net stim answer₀ before index at₀ column₀ answer at column = 3 - column
 
 abbrev Inv-lines : tie.InvT-lines
-Inv-lines net stim answer₀ before₀ index₀ place₀ answer before index place =
-    (answer ≡ Misformed (index + 1)) × (place ≡ 19 * index) × Reached (network net) stim index before
+Inv-lines net stim answer₀ before₀ index₀ answer before index =
+    (answer ≡ Misformed 65535) × (before ≡ numbersBefore stim index) × Reached (network net) stim index
 
 abbrev μ-lines : tie.MeasureT-lines
-μ-lines net stim answer₀ before₀ index₀ place₀ answer before index place = 65534 - index
+μ-lines net stim answer₀ before₀ index₀ answer before index = 65534 - index
 
 lines-holds : tie.Need-lines-holds Inv-loop μ-loop Inv-lines μ-lines
-lines-holds c = (refl, omega arith, reached-first _ _ _ refl refl)
+unfolding numbersBefore
+lines-holds c = (refl, refl, reached-first _ _)
 
 loop-holds : tie.Need-loop-holds Inv-loop μ-loop Inv-lines μ-lines
-loop-holds c = none-read _ _ _ _ refl (c .before .lines .inv .1)
+loop-holds c = (refl, fields-begin refl)
 
 loop-again : tie.Need-loop-again Inv-loop μ-loop Inv-lines μ-lines
 loop-again c =
-    let fields = c .before .before .before .before .before in
-    let right = sym (c .before .before .before .read-field .ensures) ∙ c .before .n .given .1 in
-    one-read _ _ _ _ _ (fields .loop .inv) (c .before .before .before .before .loop-test .taken) _ _ right
+    let read = c .before .before .before in
+    let fields = read .before .before .loop .inv in
+    (fields .0, fields-go-on (fields .1) (read .before .loop-test .taken) (sym (read .read-field .ensures) ∙ c .before .next .given .1))
 
--- behind the fields stands byte 10
-ended : (c : tie.Else1 Inv-loop μ-loop Inv-lines μ-lines)
-    → let stim = c .before .before .before .before .before .before .before .before .args .stim .now in
-    eqb (getD stim (c .before .before .before .loop .place) 0) newline ≡ true
-ended c = sym (c .before .ends-line .ensures) ∙ not-false _ (c .if1 .left)
+-- the line is right where all its fields are and byte 10 ends it
+form : (c : tie.Else1 Inv-loop μ-loop Inv-lines μ-lines)
+    → let line = c .before .before .before .before .before in
+    isLineAt (line .before .before .before .args .stim .now) (19 * line .lines .index) 3 ≡ true
+form c =
+    let ended = c .before in
+    fields-end (ended .before .before .loop .inv .1) (ended .before .loop-test .left) (ended .ends-line .ensures) ∙ not-false _ (c .if1 .left)
+
+numbers-at-requires : tie.Need-numbers-at-requires Inv-loop μ-loop Inv-lines μ-lines
+numbers-at-requires c κs = form c
+
+-- byte 10 stands behind three fields
+place : (c : tie.Else1 Inv-loop μ-loop Inv-lines μ-lines)
+    → let fields = c .before .before .before in fields .loop .at ≡ 19 * fields .before .before .lines .index + 18
+place c = let read = c .before .before .before .loop .inv .1 in omega (arith, read .few, read .here)
+
+add-judge : tie.Need-add-judge Inv-loop μ-loop Inv-lines μ-lines
+add-judge c =
+    let line = c .before .before .before .before .before .before in
+    let stim = line .before .before .before .args .stim .now in
+    omega (arith, place (c .before), line-within stim (19 * line .lines .index) 3 (form (c .before)))
+
+-- the line, judged by its numbers
+judges : (c : tie.After-judge Inv-loop μ-loop Inv-lines μ-lines)
+    → let line = c .before .before .before .before .before .before .before in
+    let a = line .before .before .before .args in
+    let stim = a .stim .now in
+    let index = line .lines .index in
+    judged (network (a .net .now)) index (leb (length stim) (stimLine (index + 1))) (numbersBefore stim index) (numbersOf stim index) ≡ c .judge .result
+judges c =
+    let line = c .before .before .before .before .before .before .before in
+    judged-here _ _ _ _ _ _ _ (line .lines .inv .1) (c .before .numbers-at .ensures) (place (c .before .before)) (c .judge .ensures)
 
 lines-again : tie.Need-lines-again Inv-loop μ-loop Inv-lines μ-lines
 lines-again c =
-    let after = c .before .before .before in
-    let fields = after .before .before .before in
-    let reached = fields .before .before .lines .inv .2 in (
-      refl,
-      omega arith,
-      judged-passed _ _ _ _ reached (fields .before .lines-test .taken) _ _ _ (fields .loop .inv) (after .before .before .loop-test .left)
-          (ended after) _ (c .before .before .judge .ensures) (c .enum-told2 .given .1),
+    let judge = c .before .before in
+    let ended = judge .before .before in
+    let fields = ended .before .before .before in
+    let line = fields .before .before in (
+      fields .loop .inv .0 ∙ line .lines .inv .0,
+      next-before _ _ _ (judge .before .numbers-at .ensures),
+      line-passed _ _ _ (line .lines .inv .2) (fields .before .lines-test .taken) (form ended) (judges judge ∙ c .enum-told2 .given .1),
     )
 
 -- line 65535
 returns : tie.Need-returns Inv-loop μ-loop Inv-lines μ-lines
-returns c = let i = c .before .lines .inv in rw (i .0) (limit-reached _ _ _ _ (i .2) (c .lines-test .left))
+returns c = let i = c .before .lines .inv in rw (i .0) (limit-reached _ _ _ (i .2) (c .lines-test .left))
 
 -- a field that is wrong
 returns-2 : tie.Need-returns-2 Inv-loop μ-loop Inv-lines μ-lines
 returns-2 c =
-    let fields = c .before .before .before .before in
-    let i = fields .before .before .lines .inv in
-    let wrong = sym (c .before .before .read-field .ensures) ∙ c .enum-told .given .1 in
-    rw (i .0)
-    (line-misread _ _ _ _ (i .2) (fields .before .lines-test .taken)
-    (one-misread _ _ _ _ _ (fields .loop .inv) (c .before .before .before .loop-test .taken) wrong))
+    let read = c .before .before in
+    let line = read .before .before .before .before in
+    let wrong = fields-stop (read .before .before .loop .inv .1) (read .before .loop-test .taken) (sym (read .read-field .ensures) ∙ c .enum-told .given .1) in
+    misformed _ _ _ (line .lines .inv .2) (read .before .before .before .lines-test .taken) wrong
 
 -- another byte than 10
 returns-3 : tie.Need-returns-3 Inv-loop μ-loop Inv-lines μ-lines
 returns-3 c =
-    let fields = c .before .before .before in
-    let i = fields .before .before .lines .inv in
-    let wrong = sym (c .before .ends-line .ensures) ∙ not-true _ (c .if1 .taken) in
-    rw (i .0)
-    (line-misread _ _ _ _ (i .2) (fields .before .lines-test .taken)
-    (line-is _ _ _ _ _ (fields .loop .inv) (c .before .before .loop-test .left) ∙ wrong))
+    let ended = c .before in
+    let line = ended .before .before .before .before in
+    let wrong = fields-end (ended .before .before .loop .inv .1) (ended .before .loop-test .left) (ended .ends-line .ensures) ∙ not-true _ (c .if1 .taken) in
+    misformed _ _ _ (line .lines .inv .2) (ended .before .before .before .lines-test .taken) wrong
 
 -- a line whose numbers decide
 returns-4 : tie.Need-returns-4 Inv-loop μ-loop Inv-lines μ-lines
 returns-4 c =
-    let after = c .before .before .before .before in
-    let fields = after .before .before .before in
-    let reached = fields .before .before .lines .inv .2 in
-    judged-answers _ _ _ _ reached (fields .before .lines-test .taken) _ _ _ (fields .loop .inv) (after .before .before .loop-test .left)
-    (ended after) _ (c .before .before .before .judge .ensures) _ (c .before .judged .given .1)
+    let judge = c .before .before .before in
+    let ended = judge .before .before in
+    let fields = ended .before .before .before in
+    line-answers _ _ _ (fields .before .before .lines .inv .2) (fields .before .lines-test .taken) (form ended) _ (judges judge ∙ c .before .judged .given .1)
 
 pub check-stim-spec : {M : Type 1} → statement M
 check-stim-spec =
@@ -102,9 +125,10 @@ check-stim-spec =
     Inv-lines
     μ-lines
     lines-holds
+    (λ c. search needs)
+    (λ c. search needs)
     loop-holds
     (λ c κs. search needs)
-    (λ c. search needs)
     (λ c. search needs)
     (λ c. search needs)
     (λ c. search needs)
@@ -114,10 +138,9 @@ check-stim-spec =
     (λ c κs. search needs)
     (λ c. search needs)
     (λ c. search needs)
-    (λ c. search needs)
-    (λ c. search needs)
+    numbers-at-requires
+    add-judge
     (λ c κs. search needs)
-    (λ c. search needs)
     (λ c. search needs)
     (λ c. search needs)
     (λ c. search needs)
