@@ -49,7 +49,7 @@ pub fn load_values(net: &[u8], stim: &[u8], values: &mut [u8])
         let Step::Given(time, signal, value, next) = cursor.next(stim) else {
             return;
         };
-        if time != 0 {
+        if time.0 != 0 {
             return;
         }
         values[signal as usize] = value as u8;

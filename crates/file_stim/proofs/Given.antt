@@ -27,15 +27,15 @@ module _ (n : Network) (index : ℕ) (before here : Numbers) where
       not-above r = rw (s, le-leb _ _ v, r)
 
       module _ (r : rises before here ≡ true) where
-        pub at-0 : here .time ≡ 0 → judgedGiven n index before here ≡ ReadOn
+        pub at-0 : here .time .0 ≡ 0 → judgedGiven n index before here ≡ ReadOn
         unfolding judgedGiven _and_ _or_
         at-0 t = rw (s, le-leb _ _ v, r, eq-eqb _ _ t)
 
-        pub later-input : (here .time ≡ 0 → ⊥) → eqb (n .kind (here .signal)) input ≡ true → judgedGiven n index before here ≡ ReadOn
+        pub later-input : (here .time .0 ≡ 0 → ⊥) → eqb (n .kind (here .signal)) input ≡ true → judgedGiven n index before here ≡ ReadOn
         unfolding judgedGiven _and_ _or_
         later-input t k = rw (s, le-leb _ _ v, r, ne-eqb _ _ t, k)
 
-        pub later-gate : (here .time ≡ 0 → ⊥) → eqb (n .kind (here .signal)) input ≡ false
+        pub later-gate : (here .time .0 ≡ 0 → ⊥) → eqb (n .kind (here .signal)) input ≡ false
             → judgedGiven n index before here ≡ Answered (NotInput (index + 1))
         unfolding judgedGiven _and_ _or_
         later-gate t k = rw (s, le-leb _ _ v, r, ne-eqb _ _ t, k)

@@ -26,7 +26,7 @@ pub ends-is : (stim : List ℕ) (index : ℕ) → ends (numbersOf stim index) �
 unfolding ends isEnd
 ends-is stim index = refl
 
-time-before : (stim : List ℕ) (index : ℕ) → numbersBefore stim index .time ≡ timeBefore stim index
+time-before : (stim : List ℕ) (index : ℕ) → numbersBefore stim index .time .0 ≡ timeBefore stim index
 unfolding numbersBefore timeBefore
 time-before stim zero = refl
 time-before stim (suc index) = refl
@@ -92,7 +92,7 @@ pub never-given : (n : Network) (index : ℕ) (before here : Numbers) (a : StimA
 unfolding judgedGiven
 never-given n index before here a =
     go (isSignal n (here .signal) and leb (here .value) 3 and rises before here)
-    (eqb (here .time) 0 or eqb (n .kind (here .signal)) input)
+    (eqb (here .time .0) 0 or eqb (n .kind (here .signal)) input)
   where
     go : (a′ b : Bool)
         → (if a′ then if b then ReadOn else Answered (NotInput (index + 1)) else Answered (Layout (index + 1))) ≡ Answered a
@@ -104,7 +104,7 @@ never-given n index before here a =
 pub end-accepts : (index : ℕ) (last : Bool) (before here : Numbers) → stimRefusal (judgedEnd index last before here) ≡ pass
     → judgedEnd index last before here ≡ Accepted index
 unfolding judgedEnd
-end-accepts index last before here = go (leb (before .time) (here .time)) last
+end-accepts index last before here = go (leb (before .time .0) (here .time .0)) last
   where
     go : (a b : Bool) → stimRefusal (if a then if b then Accepted index else Misformed (index + 2) else Layout (index + 1)) ≡ pass
         → (if a then if b then Accepted index else Misformed (index + 2) else Layout (index + 1)) ≡ Accepted index

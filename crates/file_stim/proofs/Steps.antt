@@ -13,6 +13,7 @@ use Rattle.model.specs.Network.{Network}
 use Rattle.model.specs.Stimulus.{stimLine, stimTime, stimSignal, stimValue, isEnd, stimCheck, stimCount, endTime}
 use Rattle.model.proofs.Accepted.{stim-right}
 use Rattle.model.proofs.RightLine.{line-field, line-within}
+use Rattle.clock.specs.declared.Cycle.{Cycle}
 use Rattle.file_stim.specs.declared.Numbers.{Numbers}
 use Rattle.file_stim.specs.declared.Cursor.{Cursor}
 use Rattle.file_stim.specs.declared.Step.the-variants.{Given, End}
@@ -68,32 +69,33 @@ module _ (n : Network) (stim : List ℕ) (accepted : stimCheck n stim ≡ pass) 
       go (no d) = stim-right n stim accepted .given line (omega arith) .line
 
   pub step-before-end : (line : ℕ) → line < stimCount stim
-      → stepAt stim line ≡ Given (stimTime stim line) (stimSignal stim line) (stimValue stim line) (record { line = line + 1 })
+      → stepAt stim line ≡ Given (record { 0 = stimTime stim line }) (stimSignal stim line) (stimValue stim line) (record { line = line + 1 })
   unfolding stepAt
   step-before-end line h = rw (stim-right n stim accepted .given line h .no-end)
 
-  pub step-at-end : stepAt stim (stimCount stim) ≡ End (endTime stim)
+  pub step-at-end : stepAt stim (stimCount stim) ≡ End (record { 0 = endTime stim })
   unfolding stepAt endTime
   step-at-end = rw (stim-right n stim accepted .end .is-end)
 
   -- what a step tells
-  pub given-at : (line : ℕ) → line ≤ stimCount stim → (time signal value : ℕ) (next : Cursor)
-      → stepAt stim line ≡ Given time signal value next → GivenAt stim line time signal value next
+  pub given-at : (line : ℕ) → line ≤ stimCount stim → (time : Cycle) (signal value : ℕ) (next : Cursor)
+      → stepAt stim line ≡ Given time signal value next → GivenAt stim line (time .0) signal value next
   given-at line h time signal value next e = go (ℕ-discrete line (stimCount stim))
     where
-      go : Dec (line ≡ stimCount stim) → GivenAt stim line time signal value next
+      go : Dec (line ≡ stimCount stim) → GivenAt stim line (time .0) signal value next
       go (yes q) = absurd (let z : _≡_ {A = ℕ} 0 1 = cc step-at-end in omega arith)
       go (no d) =
           let low : line < stimCount stim = omega arith in
           let is = step-before-end line low in
-          record { before-end = low; time-is = cc; signal-is = cc; value-is = cc; follows = cc }
+          let at : time ≡ record { 0 = stimTime stim line } = cc in
+          record { before-end = low; time-is = ap (λ (t : Cycle). t .0) at; signal-is = cc; value-is = cc; follows = cc }
 
-  pub end-at : (line : ℕ) → line ≤ stimCount stim → (time : ℕ) → stepAt stim line ≡ End time
-      → (line ≡ stimCount stim) × (time ≡ endTime stim)
+  pub end-at : (line : ℕ) → line ≤ stimCount stim → (time : Cycle) → stepAt stim line ≡ End time
+      → (line ≡ stimCount stim) × (time .0 ≡ endTime stim)
   end-at line h time e = go (ℕ-discrete line (stimCount stim))
     where
-      go : Dec (line ≡ stimCount stim) → (line ≡ stimCount stim) × (time ≡ endTime stim)
-      go (yes q) = (q, cc step-at-end)
+      go : Dec (line ≡ stimCount stim) → (line ≡ stimCount stim) × (time .0 ≡ endTime stim)
+      go (yes q) = let at : time ≡ record { 0 = endTime stim } = cc step-at-end in (q, ap (λ (t : Cycle). t .0) at)
       go (no d) =
           let low : line < stimCount stim = omega arith in
           let is = step-before-end line low in

@@ -10,5 +10,5 @@ use Rattle.file_stim.specs.declared.Step.the-variants.{Given, End}
 unfoldable pub stepAt : List ℕ → ℕ → Step
 stepAt stim line =
     if isEnd stim line
-    then End (stimTime stim line)
-    else Given (stimTime stim line) (stimSignal stim line) (stimValue stim line) (record { line = line + 1 })
+    then End (record { 0 = stimTime stim line })
+    else Given (record { 0 = stimTime stim line }) (stimSignal stim line) (stimValue stim line) (record { line = line + 1 })

@@ -12,6 +12,7 @@ ghost use Rattle.model.specs.Checked.{Checked};
 ghost use Rattle.file_stim.specs.Answer.{StimAnswers};
 ghost use Rattle.file_stim.specs.Stepping.{stepAt};
 ghost use Rattle.file_stim.specs.Judging.{numbersOf, ends, rises, judgedEnd, judgedGiven, judged};
+use clock::Cycle;
 use fields::Field;
 
 // What the check answers: how many lines stand before the end line; or the line of a refusal, 30, 31 or 32 in this order.
@@ -24,7 +25,7 @@ pub enum StimAnswer {
 
 // The numbers of a line.
 struct Numbers {
-    time: u16,
+    time: Cycle,
     signal: u16,
     value: u16,
 }
@@ -42,8 +43,8 @@ pub struct Cursor {
 
 // What a line says: time, signal and value, with the cursor after it; or T, where it is the end line.
 pub enum Step {
-    Given(u16, u16, u16, Cursor),
-    End(u16),
+    Given(Cycle, u16, u16, Cursor),
+    End(Cycle),
 }
 
 // "The last line is T, 0, 0".
@@ -60,10 +61,10 @@ fn is_end(here: Numbers) -> bool
 fn is_above(before: Numbers, here: Numbers) -> bool
     ensures { λ r. ⌜ r ≡ rises before here ⌝ }
 {
-    if before.time < here.time {
+    if before.time.0 < here.time.0 {
         return true;
     }
-    if before.time == here.time {
+    if before.time.0 == here.time.0 {
         return before.signal < here.signal;
     }
     false
@@ -74,7 +75,7 @@ fn judge_end(index: u16, last: bool, before: Numbers, here: Numbers) -> StimAnsw
     requires { ⌜ index < stimLimit ⌝ }
     ensures { λ r. ⌜ r ≡ judgedEnd index last before here ⌝ }
 {
-    if here.time < before.time {
+    if here.time.0 < before.time.0 {
         return StimAnswer::Layout(index + 1);
     }
     if last {
@@ -118,7 +119,7 @@ fn judge_given(net: &[u8], index: u16, before: Numbers, here: Numbers) -> Judged
     if !is_above(before, here) {
         return Judged::Answered(StimAnswer::Layout(index + 1));
     }
-    if here.time == 0 {
+    if here.time.0 == 0 {
         return Judged::ReadOn;
     }
     if is_input(net, here.signal) {
@@ -146,7 +147,7 @@ fn numbers_at(stim: &[u8], line: usize) -> Numbers
 {
     let at = 19 * line;
     Numbers {
-        time: fields::number_at(stim, at),
+        time: Cycle(fields::number_at(stim, at)),
         signal: fields::number_at(stim, at + 6),
         value: fields::number_at(stim, at + 12),
     }
@@ -160,7 +161,7 @@ pub fn check_stim(net: &[u8], stim: &[u8]) -> StimAnswer
 {
     let mut answer = StimAnswer::Misformed(65535);
     let mut before = Numbers {
-        time: 0,
+        time: Cycle(0),
         signal: 0,
         value: 0,
     };
@@ -201,13 +202,10 @@ impl Cursor {
         let line = self.line;
         let here = numbers_at(stim, line);
         if is_end(here) {
-            return Step::End(here.time);
+            let end = here.time;
+            return Step::End(end);
         }
-        Step::Given(
-            here.time,
-            here.signal,
-            here.value,
-            Cursor { line: line + 1 },
-        )
+        let time = here.time;
+        Step::Given(time, here.signal, here.value, Cursor { line: line + 1 })
     }
 }

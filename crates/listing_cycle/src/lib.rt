@@ -82,7 +82,7 @@ pub fn first_later(stim: &[u8]) -> Cursor
         let Step::Given(time, _, _, next) = cursor.next(stim) else {
             return cursor;
         };
-        if time != 0 {
+        if time.0 != 0 {
             return cursor;
         }
         cursor = next;
@@ -100,7 +100,7 @@ pub fn end_time(stim: &[u8], lines: u16) -> Cycle
     };
     match last.next(stim) {
         Step::Given(_, _, _, _) => Cycle(0),
-        Step::End(time) => Cycle(time),
+        Step::End(time) => time,
     }
 }
 
@@ -125,7 +125,7 @@ pub fn take_settings(
         let Step::Given(at, signal, value, next) = cursor.next(stim) else {
             return Settled { session, cursor };
         };
-        if at != time.0 {
+        if at.0 != time.0 {
             return Settled { session, cursor };
         }
         let told = session.set(panel, signal as u32, value as u32);

@@ -12,10 +12,10 @@ callAnswer WrongLength = refused 40 0
 callAnswer OutOfRange = refused 44 0
 callAnswer (NoSuchSignal signal) = refused 41 signal
 callAnswer (NoSuchValue given) = refused 42 given
-callAnswer (TooManyCycles finished) = refused 43 finished
+callAnswer (TooManyCycles finished) = refused 43 (finished .0)
 callAnswer Done = done
 callAnswer (Value v) = value v
-callAnswer (Ran count stopped) = ran count stopped
+callAnswer (Ran count stopped) = ran (count .0) stopped
 
 -- Bits 56 to 63 have the refusal's number, 0 where the call was not refused; bits 0 to 31 the returned value. A run has the cycles done
 -- in bits 0 to 15 and stopped in bit 16.

@@ -3,6 +3,7 @@
 ghost use mathlib.Core.Path.{_≡_};
 ghost use Rattle.model.specs.Session.{refused, ran};
 ghost use Rattle.session_answers.specs.Answers.{callAnswer, answerBits};
+use clock::Cycle;
 
 // What a call answers: refused (01, Refusals), done, the value read, or the cycles of a run and whether it stopped.
 pub enum CallAnswer {
@@ -10,10 +11,10 @@ pub enum CallAnswer {
     OutOfRange,
     NoSuchSignal(u32),
     NoSuchValue(u32),
-    TooManyCycles(u16),
+    TooManyCycles(Cycle),
     Done,
     Value(u8),
-    Ran(u16, bool),
+    Ran(Cycle, bool),
 }
 
 // A refusal's number in bits 56 to 63, and what it returns in bits 0 to 31.
@@ -24,13 +25,14 @@ pub fn refusal_bits(number: u8, returned: u32) -> u64
 }
 
 // The cycles done in bits 0 to 15, and stopped in bit 16.
-fn run_bits(count: u16, stopped: bool) -> u64
-    ensures { λ r. ⌜ r ≡ answerBits (ran count stopped) ⌝ }
+fn run_bits(count: Cycle, stopped: bool) -> u64
+    ensures { λ r. ⌜ r ≡ answerBits (ran (count .0) stopped) ⌝ }
 {
+    let done = count.0;
     if stopped {
-        return count as u64 + 65536;
+        return done as u64 + 65536;
     }
-    count as u64
+    done as u64
 }
 
 impl CallAnswer {
@@ -43,7 +45,7 @@ impl CallAnswer {
             CallAnswer::OutOfRange => refusal_bits(44, 0),
             CallAnswer::NoSuchSignal(signal) => refusal_bits(41, signal),
             CallAnswer::NoSuchValue(given) => refusal_bits(42, given),
-            CallAnswer::TooManyCycles(finished) => refusal_bits(43, finished as u32),
+            CallAnswer::TooManyCycles(finished) => refusal_bits(43, finished.0 as u32),
             CallAnswer::Done => 0,
             CallAnswer::Value(v) => v as u64,
             CallAnswer::Ran(count, stopped) => run_bits(count, stopped),

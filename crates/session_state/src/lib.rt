@@ -158,9 +158,10 @@ impl Session {
         ensures { λ r. ⌜ Tells (commanded (now (panel .entry)) (now (program .entry)) (now (memory .entry)) (headOf self (now (panel .entry))) (running cycles)) r (now (panel .entry)) (now (panel .entry)) ⌝ }
         ensures { λ r. ⌜ now (memory .exit) ≡ withMemory (processorsIn (now (panel .entry))) (slotsIn (now (panel .entry))) (commanded (now (panel .entry)) (now (program .entry)) (now (memory .entry)) (headOf self (now (panel .entry))) (running cycles) .state) (now (memory .entry)) ⌝ }
     {
-        let finished = self.finished.0;
+        let finished = self.finished;
+        let count = finished.0;
         let watch = self.watch;
-        if 65535 - (finished as u32) < cycles {
+        if 65535 - (count as u32) < cycles {
             return Told {
                 session: self,
                 answer: CallAnswer::TooManyCycles(finished),
@@ -171,10 +172,10 @@ impl Session {
         let stopped = ran.stopped;
         Told {
             session: Session {
-                finished: Cycle(finished + done),
+                finished: Cycle(count + done),
                 watch,
             },
-            answer: CallAnswer::Ran(done, stopped),
+            answer: CallAnswer::Ran(Cycle(done), stopped),
         }
     }
 }

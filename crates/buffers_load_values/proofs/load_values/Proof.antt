@@ -38,39 +38,39 @@ returns c =
 gives : (c : tie.After-known-told Inv-loop μ-loop)
     → let turn = c .before .before .before .before in
     let line = c .before .time .given .0 in
-    GivenAt (entry turn .args .stim .now) (turn .loop .cursor .line) (line .0) (line .1 .0) (line .1 .1 .0) (line .1 .1 .1 .0)
+    GivenAt (entry turn .args .stim .now) (turn .loop .cursor .line) (line .0 .0) (line .1 .0) (line .1 .1 .0) (line .1 .1 .1 .0)
 gives c =
     let turn = c .before .before .before .before in
     given-at _ _ (entry turn .pre .1 .0) _ (turn .loop .inv .low) _ _ _ _ (sym (c .before .before .before .next .ensures) ∙ c .before .time .given .1)
 
 returns-2 : tie.Need-returns-2 Inv-loop μ-loop
 returns-2 c =
-    let turn = c .before .before .before .before .before in
+    let turn = c .before .before .before .before .before .before in
     let s = entry turn in
-    let g = gives (c .before) in
+    let g = gives (c .before .before) in
     given-ends _ _ (s .pre .0) (s .pre .1 .0) (turn .loop .inv) (λ h. omega (arith, g .time-is, c .if1 .taken))
 
 cast-values : tie.Need-cast-values Inv-loop μ-loop
 cast-values c =
-    let s = entry (c .before .before .before .before .before) in
-    let g = gives (c .before) in
+    let s = entry (c .before .before .before .before .before .before) in
+    let g = gives (c .before .before) in
     omega (arith, g .value-is, line-value-few _ _ (s .pre .0) (s .pre .1 .0) _ (g .before-end))
 
 slice-write-values : tie.Need-slice-write-values Inv-loop μ-loop
 slice-write-values c =
-    let turn = c .before .before .before .before .before in
+    let turn = c .before .before .before .before .before .before in
     let s = entry turn in
-    let g = gives (c .before) in
+    let g = gives (c .before .before) in
     omega (arith, turn .loop .inv .size, g .signal-is, line-signal-few _ _ (s .pre .0) (s .pre .1 .0) _ (g .before-end))
 
 loop-less : tie.Need-loop-less Inv-loop μ-loop
-loop-less c = let g = gives (c .before) in omega (arith, g .before-end, g .follows)
+loop-less c = let g = gives (c .before .before) in omega (arith, g .before-end, g .follows)
 
 loop-again : tie.Need-loop-again Inv-loop μ-loop
 loop-again c =
-    let turn = c .before .before .before .before .before in
+    let turn = c .before .before .before .before .before .before in
     let s = entry turn in
-    given-more _ _ (s .pre .0) (s .pre .1 .0) (turn .loop .inv) (gives (c .before)) (c .if1 .left)
+    given-more _ _ (s .pre .0) (s .pre .1 .0) (turn .loop .inv) (gives (c .before .before)) (c .if1 .left)
 
 pub load-values-spec : {M : Type 1} → statement M
 load-values-spec =

@@ -39,24 +39,24 @@ returns c =
 
 same-length-2 : tie.Need-same-length-2 Inv-loop μ-loop
 same-length-2 c =
-    let loop = c .before .before .before .before .before .before in
+    let loop = c .before .before .before .before .before .before .before in
     fed-size (loop .loop .inv .0) ∙ sym (loop .before .before .before .pre .1 .1 .0)
 
 returns-2 : tie.Need-returns-2 Inv-loop μ-loop
 returns-2 c =
-    let read = c .before .before .before .before .before in
+    let read = c .before .before .before .before .before .before in
     let i = read .before .loop .inv in
-    let g = given-at _ _ (read .before .before .before .before .pre .0 .passes) _ (i .0 .few) _ _ _ _ (sym (read .next .ensures) ∙ c .before .before .before .at .given .1) in
+    let g = given-at _ _ (read .before .before .before .before .pre .0 .passes) _ (i .0 .few) _ _ _ _ (sym (read .next .ensures) ∙ c .before .before .before .before .at .given .1) in
     (i .0, (λ h q. c .if1 .taken (g .time-is ∙ q), i .1))
 
 set-requires : tie.Need-set-requires Inv-loop μ-loop
 set-requires c κs =
-    let loop = c .before .before .before .before .before .before .before in
+    let loop = c .before .before .before .before .before .before .before .before in
     (fed-size (loop .loop .inv .0), fed-signals (loop .loop .inv .0) (loop .before .before .before .pre .1 .1 .1))
 
 loop-less : tie.Need-loop-less Inv-loop μ-loop
 loop-less c =
-    let given = c .before .before .before .before .before .before .before .before in
+    let given = c .before .before .before .before .before .before .before .before .before in
     let read = given .before .before in
     let g = given-at _ _ (read .before .before .before .before .pre .0 .passes) _ (read .before .loop .inv .0 .few) _ _ _ _ (sym (read .next .ensures) ∙ given .at .given .1) in
     omega (arith, g .before-end, g .follows)
@@ -64,7 +64,7 @@ loop-less c =
 loop-again : tie.Need-loop-again Inv-loop μ-loop
 loop-again c =
     let done = c .before .before .before in
-    let given = done .before .before .before .before .before in
+    let given = done .before .before .before .before .before .before in
     let read = given .before .before in
     let i = read .before .loop .inv in
     let s = read .before .before .before .before in

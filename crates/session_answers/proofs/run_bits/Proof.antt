@@ -14,4 +14,4 @@ unfolding answerBits
 returns-2 c = rw (c .if1 .left) (omega arith)
 
 pub run-bits-spec : {M : Type 1} → statement M
-run-bits-spec = tie.close (tie.spec (λ c. search needs) returns returns-2)
+run-bits-spec = tie.close (tie.spec (λ c. search needs) (λ c. search needs) returns (λ c. search needs) returns-2)

@@ -17,7 +17,7 @@ returns-4 : tie.Need-returns-4
 returns-4 c = rw (c .before .before .self2 .given .1) (c .refusal-bits4 .ensures)
 
 returns-5 : tie.Need-returns-5
-returns-5 c = rw (c .before .before .self3 .given .1) (c .refusal-bits5 .ensures)
+returns-5 c = rw (c .before .before .before .self3 .given .1) (c .refusal-bits5 .ensures)
 
 returns-6 : tie.Need-returns-6
 unfolding answerBits
