@@ -19,6 +19,7 @@ use Rattle.model.specs.Netlist.{network, netSize}
 use Rattle.model.specs.Value.{start}
 use Rattle.model.specs.Stimulus.{stimTime, stimSignal, stimValue, stimCheck, stimCount, lastGiven, held}
 use Rattle.model.specs.Checked.{Checked}
+use Rattle.model.proofs.Value.{start-given}
 use Rattle.model.proofs.Accepted.{stim-right}
 use Rattle.model.proofs.Checked.{checked-size}
 use Rattle.file_stim.specs.declared.Cursor.{Cursor}
@@ -112,9 +113,9 @@ module _ (net stim : List ℕ) where
 
     pub given-ends : {line : ℕ} {values : List ℕ} → GivenTo net stim line values → (line < stimCount stim → 0 < stimTime stim line)
         → values ≡ listed 4097 (timeZeroFrom net stim)
-    unfolding givenBelow timeZeroFrom start held
+    unfolding givenBelow timeZeroFrom held
     given-ends {line} {values} so-far later =
         is-listed values 4097 _ (so-far .size) (λ s b. so-far .given s b ∙ same s)
       where
         same : (s : ℕ) → givenBelow net stim line s ≡ timeZeroFrom net stim s
-        same s = rw (nothing-later (network net) stim passes 0 line later s (stimCount stim) (so-far .low) (omega arith))
+        same s = rw (start-given (network net) (held stim 0) s, nothing-later (network net) stim passes 0 line later s (stimCount stim) (so-far .low) (omega arith))

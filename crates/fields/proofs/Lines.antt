@@ -1,6 +1,6 @@
 -- What reading a line answers, from the answers of its fields.
 use Prim.Native.Nat.{ℕ, _+_, _*_, _<_, _≤_}
-use mathlib.Core.Path.{_≡_, refl}
+use mathlib.Core.Path.{_≡_, refl, sym}
 use mathlib.Core.Bool.{Bool, true, false}
 use mathlib.Core.List.{List}
 use native.Mathlib.Omega.{arith}
@@ -87,6 +87,9 @@ module _ {l : List ℕ} {at n k place : ℕ} (read : FieldsRight l at n k place)
         here = omega (arith, f .after);
         right = all-more (λ j. isFieldAt l (at + 6 * j)) k (read .right) (f .form);
       }
+
+  pub fields-number : {m next : ℕ} → readField l place ≡ Number m next → m ≡ numberAt l (at + 6 * k)
+  fields-number {m} {next} e = sym (field-right l (at + 6 * k) m next (rw (read .here) at e) .is)
 
   -- byte 10 decides, r being whether it stands there
   pub fields-end : n ≤ k → {r : Bool} → r ≡ eqb (getD l place 0) newline → isLineAt l at n ≡ r

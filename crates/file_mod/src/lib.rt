@@ -3,6 +3,8 @@
 use file_mod_lines::ModAnswer;
 use file_mod_lines::Place;
 use file_mod_lines::Shape;
+use file_mod_sources::Judgement;
+use file_mod_sources::judged_by;
 ghost use mathlib.Core.Path.{_≡_};
 ghost use Prim.Native.Nat.{ℕ, _+_, _*_, _<_, _≤_};
 ghost use lib.ListN.{length, getD};
@@ -14,6 +16,7 @@ ghost use Rattle.model.specs.Checked.{Checked};
 ghost use Rattle.file_lines.specs.Answer.{Answers};
 ghost use Rattle.file_mod_lines.specs.Answer.{modRefusal, ModAnswers};
 ghost use Rattle.file_mod_table.specs.Line.{LinesLaid, LineOf};
+ghost use Rattle.file_mod_sources.specs.Judged.{judged};
 ghost use Rattle.file_mod.specs.Formed.{Formed};
 ghost use Rattle.file_mod.specs.Counting.{countedOnce};
 ghost use Rattle.file_mod.specs.Testing.{testRight, testAnswer, testCheck, moduleCheck};
@@ -76,17 +79,17 @@ fn check_placements(modfile: &[u8], signals: u16, shape: Shape) -> ModAnswer
     find_unplaced(&counts, signals, shape)
 }
 
-// A line passes a test.
-fn line_right(test: Test, net: &[u8], modfile: &[u8], shape: Shape, place: Place) -> bool
+// What a test finds of a line.
+fn judge_line(test: Test, net: &[u8], modfile: &[u8], shape: Shape, place: Place) -> Judgement
     requires { ⌜ LineOf (now modfile) (shape .slots) (place .processor) (place .slot .0) ⌝ }
     requires { ⌜ Checked (now net) ⌝ }
     requires { ⌜ moduleOf (now modfile) .signal (place .processor) (place .slot .0) ≤ netSize (now net) ⌝ }
-    ensures { λ r. ⌜ r ≡ testRight test (network (now (net .entry))) (moduleOf (now (modfile .entry))) (place .processor) (place .slot .0) ⌝ }
+    ensures { λ r. ⌜ r ≡ judged (testRight test (network (now (net .entry))) (moduleOf (now (modfile .entry))) (place .processor) (place .slot .0)) ⌝ }
 {
     match test {
-        Test::Sends => file_mod_sources::send_right(modfile, shape, place),
-        Test::Receptions => file_mod_sources::reception_right(modfile, shape, place),
-        Test::Operands => file_mod_sources::operands_right(net, modfile, shape, place),
+        Test::Sends => judged_by(file_mod_sources::send_right(modfile, shape, place)),
+        Test::Receptions => judged_by(file_mod_sources::reception_right(modfile, shape, place)),
+        Test::Operands => file_mod_sources::judge_operands(net, modfile, shape, place),
     }
 }
 
@@ -109,15 +112,10 @@ fn check_each(test: Test, net: &[u8], modfile: &[u8], shape: Shape) -> ModAnswer
     let lines = file_mod_lines::line_count(shape);
     let mut k: usize = 0;
     while k < lines {
-        if !line_right(
-            test,
-            net,
-            modfile,
-            shape,
-            file_mod_lines::place_of(k, shape),
-        ) {
+        let place = file_mod_lines::place_of(k, shape);
+        let Judgement::Right = judge_line(test, net, modfile, shape, place) else {
             return refused_at(test, (k + 2) as u16);
-        }
+        };
         k += 1;
     }
     ModAnswer::Accepted(shape.processors, shape.slots)

@@ -1,3 +1,4 @@
+pub mod Judged
 pub mod Sends
 pub mod Operands
 pub mod Told

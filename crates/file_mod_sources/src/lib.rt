@@ -16,13 +16,30 @@ ghost use Rattle.model.specs.Checked.{Checked};
 ghost use Rattle.instruction.specs.Operand.{partOf, locationOf};
 ghost use Rattle.file_mod_table.specs.Line.{LineOf};
 ghost use Rattle.file_mod_sources.specs.Asked.{OperandOf};
+ghost use Rattle.file_mod_sources.specs.Judged.{judged};
 ghost use Rattle.file_mod_sources.specs.Mirror.{sentRight, wantedSend, gateReads, nthOperand};
+
+// What is found of a line's send, its reception or an operand: right, or refused by 24, 25 or 23.
+pub enum Judgement {
+    Right,
+    Wrong,
+}
 
 // The gate of an operand: its place, its kind, and the source that the operand has to read.
 struct Gate {
     place: Place,
     kind: u16,
     source: u16,
+}
+
+// A test as a judgement.
+pub fn judged_by(right: bool) -> Judgement
+    ensures { λ r. ⌜ r ≡ judged right ⌝ }
+{
+    if right {
+        return Judgement::Right;
+    }
+    Judgement::Wrong
 }
 
 // 24: the line at a place sends no "empty slot's location, or part 1 with location not below its own slot".
@@ -237,21 +254,22 @@ fn nth_operand(line: Instruction, j: usize) -> Operand
     }
 }
 
-// 23: the four operands of the line at a place.
-pub fn operands_right(net: &[u8], modfile: &[u8], shape: Shape, place: Place) -> bool
+// 23: the four operands of the line at a place. The first that is not right decides.
+pub fn judge_operands(net: &[u8], modfile: &[u8], shape: Shape, place: Place) -> Judgement
     requires { ⌜ LineOf (now modfile) (shape .slots) (place .processor) (place .slot .0) ⌝ }
     requires { ⌜ Checked (now net) ⌝ }
     requires { ⌜ moduleOf (now modfile) .signal (place .processor) (place .slot .0) ≤ netSize (now net) ⌝ }
-    ensures { λ r. ⌜ r ≡ all 4 (operandRight (network (now (net .entry))) (moduleOf (now (modfile .entry))) (place .processor) (place .slot .0)) ⌝ }
+    ensures { λ r. ⌜ r ≡ judged (all 4 (operandRight (network (now (net .entry))) (moduleOf (now (modfile .entry))) (place .processor) (place .slot .0))) ⌝ }
 {
     let line = file_mod_table::instruction_at(modfile, shape, place);
     let mut j: usize = 0;
     while j < 4 {
         let a = nth_operand(line, j);
-        if !operand_right(net, modfile, shape, place, line.signal, j, a) {
-            return false;
+        let right = operand_right(net, modfile, shape, place, line.signal, j, a);
+        if !right {
+            return judged_by(right);
         }
         j += 1;
     }
-    true
+    Judgement::Right
 }

@@ -6,8 +6,11 @@ use mathlib.Core.List.{List}
 use native.Mathlib.Omega.{arith}
 use native.Mathlib.Numerals.{add-one}
 use lib.Dec.{leb}
-use lib.ListN.{length}
+use native.Mathlib.Decide.{ℕ-discrete}
+use lib.ListN.{length, getD, set, length-set}
+use lib.Seq.{getD-set-same, getD-set-other}
 use Rattle.logic.specs.Choice.{if_then_else_}
+use Rattle.fields.specs.Field.{numberAt}
 use Rattle.fields.specs.Line.{isLineAt}
 use Rattle.model.specs.Refusal.{first, unless}
 use Rattle.model.specs.Network.{Network}
@@ -126,3 +129,23 @@ pub judged-here : (n : Network) (stim : List ℕ) (index at : ℕ) (before here 
 judged-here n stim index at before here j b h e q =
     let place : at + 1 ≡ stimLine (index + 1) = omega arith in
     rw (← b, ← h, ← place) (sym q)
+
+-- the numbers of a line's first fields, as the loop over them collects them
+pub record NumbersRead (stim : List ℕ) (at k : ℕ) (numbers : List ℕ) : Type 0 where
+  pub size : length numbers ≡ 3
+  pub are : (j : ℕ) → j < k → getD numbers j 0 ≡ numberAt stim (at + 6 * j)
+
+pub numbers-more : {stim : List ℕ} {at k : ℕ} {numbers : List ℕ} → NumbersRead stim at k numbers → k < 3 → (m : ℕ) → m ≡ numberAt stim (at + 6 * k)
+    → NumbersRead stim at (k + 1) (set numbers k m)
+numbers-more {stim} {at} {k} {numbers} so-far low m e =
+    record { size = length-set numbers k m ∙ so-far .size; are = λ j l. number j l (ℕ-discrete j k) }
+  where
+    number : (j : ℕ) → j < k + 1 → Dec (j ≡ k) → getD (set numbers k m) j 0 ≡ numberAt stim (at + 6 * j)
+    number j l (yes q) = rw q (getD-set-same numbers k m 0 (omega (arith, so-far .size)) ∙ e)
+    number j l (no d) = getD-set-other numbers k j m 0 d ∙ so-far .are j (omega arith)
+
+pub numbers-here : {stim : List ℕ} (index : ℕ) {k : ℕ} {numbers : List ℕ} → NumbersRead stim (19 * index) k numbers → 3 ≤ k
+    → record { time = record { 0 = getD numbers 0 0 }; signal = getD numbers 1 0; value = getD numbers 2 0 } ≡ numbersOf stim index
+numbers-here {stim} index so-far h =
+    let first : 19 * index + 6 * 0 ≡ 19 * index = omega arith in
+    rw (so-far .are 0 (omega arith), so-far .are 1 (omega arith), so-far .are 2 (omega arith), first)

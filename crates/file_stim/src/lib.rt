@@ -167,13 +167,15 @@ pub fn check_stim(net: &[u8], stim: &[u8]) -> StimAnswer
     };
     let mut index: u16 = 0;
     'lines: while index < 65534 {
+        let mut numbers = [0u16; 3];
         let mut at = 19 * (index as usize);
         let mut column: usize = 0;
         while column < 3 {
-            let Field::Number(_, next) = fields::read_field(stim, at) else {
+            let Field::Number(n, next) = fields::read_field(stim, at) else {
                 answer = StimAnswer::Misformed(index + 1);
                 break 'lines;
             };
+            numbers[column] = n;
             at = next;
             column += 1;
         }
@@ -181,7 +183,11 @@ pub fn check_stim(net: &[u8], stim: &[u8]) -> StimAnswer
             answer = StimAnswer::Misformed(index + 1);
             break 'lines;
         }
-        let here = numbers_at(stim, index as usize);
+        let here = Numbers {
+            time: Cycle(numbers[0]),
+            signal: numbers[1],
+            value: numbers[2],
+        };
         let judged = judge(net, index, stim.len() <= at + 1, before, here);
         if let Judged::Answered(found) = judged {
             answer = found;

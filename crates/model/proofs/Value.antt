@@ -48,6 +48,11 @@ module _ (n : Network) where
   unfolding start
   start-input given s g k = refl
 
+  -- "At t = 0 every signal has its given value": what the code that makes time 0 goes by, and nobody else
+  pub start-given : (given : ℕ → ℕ) (s : ℕ) → start n given s ≡ given s
+  unfolding start
+  start-given given s = refl
+
   pub start-same : (given given′ : ℕ → ℕ) → Same n given given′ → Same n (start n given) (start n given′)
   unfolding start
   start-same given given′ same = same

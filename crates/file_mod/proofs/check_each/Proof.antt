@@ -1,10 +1,10 @@
 -- The invariant: the lines before line k pass the test.
 use Prim.Native.Nat.{_+_, _-_, _≤_, _<_, _*_}
-use mathlib.Core.Path.{_≡_, refl}
+use mathlib.Core.Path.{_≡_, refl, sym, _∙_}
 use native.Mathlib.Omega.{arith}
-use borrow.Author.Tests.{not-true, not-false}
 use Rattle.model.specs.Refusal.{pass, firstBelow}
 use Rattle.model.specs.Netlist.{network}
+use Rattle.file_mod_sources.proofs.Judged.{judged-right, judged-wrong}
 use Rattle.file_mod.proofs.Numbered.{line-numbered, signal-numbered}
 use Rattle.file_mod.proofs.Testing.{lineTest, each-stops, each-goes-on, each-ends}
 use borrow.Author.Needs.{needs}
@@ -21,8 +21,8 @@ loop-holds : tie.Need-loop-holds Inv-loop μ-loop
 unfolding firstBelow
 loop-holds c = (omega arith, refl)
 
-line-right-requires : tie.Need-line-right-requires Inv-loop μ-loop
-line-right-requires c κs =
+judge-line-requires : tie.Need-judge-line-requires Inv-loop μ-loop
+judge-line-requires c κs =
     let s = c .before .before .before .before .before .before in
     let loop = c .before .before .loop in
     let low : loop .k < s .args .shape .processors * s .args .shape .slots = omega (arith, c .before .before .before .line-count .ensures .0) in
@@ -31,27 +31,27 @@ line-right-requires c κs =
 
 returns : tie.Need-returns Inv-loop μ-loop
 returns c =
+    let judged = c .before .before .before in
+    let line = judged .before in
+    let loop = line .before .before .loop in
+    let count = line .before .before .before in
+    let s = count .before .before .before in
+    let here = rw (line .place-of .ensures .0, line .place-of .ensures .1) at (judged .judge-line .ensures) in
+    let tested = each-stops (s .args .test) (network (s .args .net .now)) (s .args .modfile .now) _ _ (s .pre .laid .sized) _ (loop .k) in
+    rw (c .refused-at .ensures)
+    (tested (count .line-count .ensures .0) (loop .inv .1) (line .before .loop-test .taken) _ refl (judged-wrong _ (sym here ∙ c .before .enum-told2 .given .1)))
+
+loop-again : tie.Need-loop-again Inv-loop μ-loop
+loop-again c =
     let judged = c .before .before in
     let line = judged .before in
     let loop = line .before .before .loop in
     let count = line .before .before .before in
     let s = count .before .before .before in
-    let here = rw (line .place-of .ensures .0, line .place-of .ensures .1) at (judged .line-right .ensures) in
-    let tested = each-stops (s .args .test) (network (s .args .net .now)) (s .args .modfile .now) _ _ (s .pre .laid .sized) _ (loop .k) in
-    rw (c .refused-at .ensures)
-    (tested (count .line-count .ensures .0) (loop .inv .1) (line .before .loop-test .taken) _ here (not-true _ (c .before .if1 .taken)))
-
-loop-again : tie.Need-loop-again Inv-loop μ-loop
-loop-again c =
-    let judged = c .before in
-    let line = judged .before in
-    let loop = line .before .before .loop in
-    let count = line .before .before .before in
-    let s = count .before .before .before in
-    let here = rw (line .place-of .ensures .0, line .place-of .ensures .1) at (judged .line-right .ensures) in
+    let here = rw (line .place-of .ensures .0, line .place-of .ensures .1) at (judged .judge-line .ensures) in
     let low : loop .k + 1 ≤ count .line-count .result = omega arith in
     let tested = each-goes-on (s .args .test) (network (s .args .net .now)) (s .args .modfile .now) _ _ (s .pre .laid .sized) _ (loop .k) in
-    (low, tested (count .line-count .ensures .0) (loop .inv .1) _ here (not-false _ (c .if1 .left)))
+    (low, tested (count .line-count .ensures .0) (loop .inv .1) _ refl (judged-right _ (sym here ∙ c .enum-told .given .1)))
 
 returns-2 : tie.Need-returns-2 Inv-loop μ-loop
 returns-2 c =
@@ -70,7 +70,9 @@ check-each-spec =
     (λ c κs. search needs)
     loop-holds
     (λ c κs. search needs)
-    line-right-requires
+    judge-line-requires
+    (λ c. search needs)
+    (λ c. search needs)
     (λ c. search needs)
     (λ c. search needs)
     (λ c κs. search needs)

@@ -4,25 +4,26 @@ use mathlib.Core.Path.{_≡_, refl, sym, _∙_}
 use mathlib.Core.Bool.{true}
 use native.Mathlib.Omega.{arith}
 use lib.Dec.{leb}
-use lib.ListN.{length}
+use lib.ListN.{length, getD}
 use borrow.Author.Needs.{needs}
 use borrow.Author.Tests.{not-true, not-false}
 use Rattle.fields.specs.Line.{isLineAt}
-use Rattle.fields.proofs.Lines.{FieldsRight, fields-begin, fields-stop, fields-go-on, fields-end}
+use Rattle.fields.proofs.Lines.{FieldsRight, fields-begin, fields-stop, fields-go-on, fields-number, fields-end}
 use Rattle.model.specs.Netlist.{network}
 use Rattle.model.specs.Stimulus.{stimLine}
 use Rattle.model.proofs.RightLine.{line-within}
 use Rattle.file_stim.specs.declared.StimAnswer.the-variants.{Misformed}
 use Rattle.file_stim.specs.Judging.{numbersOf, numbersBefore, judged}
-use Rattle.file_stim.proofs.Lines.{Reached, reached-first, limit-reached, misformed, line-answers, line-passed, next-before, judged-here}
+use Rattle.file_stim.proofs.Lines.{NumbersRead, numbers-more, numbers-here, Reached, reached-first, limit-reached, misformed, line-answers, line-passed, next-before, judged-here}
 use Rattle.file_stim.proofs.check_stim.Statement.{statement}
 use Rattle.file_stim.proofs.check_stim.Tie as tie
 
 abbrev Inv-loop : tie.InvT-loop
-Inv-loop net stim answer₀ before index at₀ column₀ answer at column = (answer ≡ answer₀) × FieldsRight stim (19 * index) 3 column at
+Inv-loop net stim answer₀ before index numbers₀ at₀ column₀ answer numbers at column =
+    (answer ≡ answer₀) × FieldsRight stim (19 * index) 3 column at × NumbersRead stim (19 * index) column numbers
 
 abbrev μ-loop : tie.MeasureT-loop
-μ-loop net stim answer₀ before index at₀ column₀ answer at column = 3 - column
+μ-loop net stim answer₀ before index numbers₀ at₀ column₀ answer numbers at column = 3 - column
 
 abbrev Inv-lines : tie.InvT-lines
 Inv-lines net stim answer₀ before₀ index₀ answer before index =
@@ -36,13 +37,20 @@ unfolding numbersBefore
 lines-holds c = (refl, refl, reached-first _ _)
 
 loop-holds : tie.Need-loop-holds Inv-loop μ-loop Inv-lines μ-lines
-loop-holds c = (refl, fields-begin refl)
+loop-holds c = (refl, fields-begin refl, record { size = refl; are = λ j l. absurd (omega arith) })
+
+array-write-numbers : tie.Need-array-write-numbers Inv-loop μ-loop Inv-lines μ-lines
+array-write-numbers c =
+    let read = c .before .before .before in
+    omega (arith, read .before .loop-test .taken, read .before .before .loop .inv .2 .size)
 
 loop-again : tie.Need-loop-again Inv-loop μ-loop Inv-lines μ-lines
 loop-again c =
     let read = c .before .before .before in
     let fields = read .before .before .loop .inv in
-    (fields .0, fields-go-on (fields .1) (read .before .loop-test .taken) (sym (read .read-field .ensures) ∙ c .before .next .given .1))
+    let taken = read .before .loop-test .taken in
+    let number = sym (read .read-field .ensures) ∙ c .before .n .given .1 in
+    (fields .0, fields-go-on (fields .1) taken number, numbers-more (fields .2) taken _ (fields-number (fields .1) number))
 
 -- the line is right where all its fields are and byte 10 ends it
 form : (c : tie.Else1 Inv-loop μ-loop Inv-lines μ-lines)
@@ -52,9 +60,6 @@ form c =
     let ended = c .before in
     fields-end (ended .before .before .loop .inv .1) (ended .before .loop-test .left) (ended .ends-line .ensures) ∙ not-false _ (c .if1 .left)
 
-numbers-at-requires : tie.Need-numbers-at-requires Inv-loop μ-loop Inv-lines μ-lines
-numbers-at-requires c κs = form c
-
 -- byte 10 stands behind three fields
 place : (c : tie.Else1 Inv-loop μ-loop Inv-lines μ-lines)
     → let fields = c .before .before .before in fields .loop .at ≡ 19 * fields .before .before .lines .index + 18
@@ -62,29 +67,38 @@ place c = let read = c .before .before .before .loop .inv .1 in omega (arith, re
 
 add-judge : tie.Need-add-judge Inv-loop μ-loop Inv-lines μ-lines
 add-judge c =
-    let line = c .before .before .before .before .before .before in
+    let line = c .before .before .before .before .before in
     let stim = line .before .before .before .args .stim .now in
-    omega (arith, place (c .before), line-within stim (19 * line .lines .index) 3 (form (c .before)))
+    omega (arith, place c, line-within stim (19 * line .lines .index) 3 (form c))
+
+-- the numbers in hand are those of the line
+collected : (c : tie.Else1 Inv-loop μ-loop Inv-lines μ-lines)
+    → let fields = c .before .before .before in
+    let line = fields .before .before in
+    let numbers = fields .loop .numbers in
+    record { time = record { 0 = getD numbers 0 0 }; signal = getD numbers 1 0; value = getD numbers 2 0 }
+    ≡ numbersOf (line .before .before .before .args .stim .now) (line .lines .index)
+collected c = numbers-here _ (c .before .before .before .loop .inv .2) (omega (arith, c .before .before .loop-test .left))
 
 -- the line, judged by its numbers
 judges : (c : tie.After-judge Inv-loop μ-loop Inv-lines μ-lines)
-    → let line = c .before .before .before .before .before .before .before in
+    → let line = c .before .before .before .before .before .before in
     let a = line .before .before .before .args in
     let stim = a .stim .now in
     let index = line .lines .index in
     judged (network (a .net .now)) index (leb (length stim) (stimLine (index + 1))) (numbersBefore stim index) (numbersOf stim index) ≡ c .judge .result
 judges c =
-    let line = c .before .before .before .before .before .before .before in
-    judged-here _ _ _ _ _ _ _ (line .lines .inv .1) (c .before .numbers-at .ensures) (place (c .before .before)) (c .judge .ensures)
+    let line = c .before .before .before .before .before .before in
+    judged-here _ _ _ _ _ _ _ (line .lines .inv .1) (collected (c .before)) (place (c .before)) (c .judge .ensures)
 
 lines-again : tie.Need-lines-again Inv-loop μ-loop Inv-lines μ-lines
 lines-again c =
     let judge = c .before .before in
-    let ended = judge .before .before in
+    let ended = judge .before in
     let fields = ended .before .before .before in
     let line = fields .before .before in (
       fields .loop .inv .0 ∙ line .lines .inv .0,
-      next-before _ _ _ (judge .before .numbers-at .ensures),
+      next-before _ _ _ (collected ended),
       line-passed _ _ _ (line .lines .inv .2) (fields .before .lines-test .taken) (form ended) (judges judge ∙ c .enum-told2 .given .1),
     )
 
@@ -112,7 +126,7 @@ returns-3 c =
 returns-4 : tie.Need-returns-4 Inv-loop μ-loop Inv-lines μ-lines
 returns-4 c =
     let judge = c .before .before .before in
-    let ended = judge .before .before in
+    let ended = judge .before in
     let fields = ended .before .before .before in
     line-answers _ _ _ (fields .before .before .lines .inv .2) (fields .before .lines-test .taken) (form ended) _ (judges judge ∙ c .before .judged .given .1)
 
@@ -133,12 +147,15 @@ check-stim-spec =
     (λ c. search needs)
     (λ c. search needs)
     (λ c. search needs)
+    array-write-numbers
+    (λ c. search needs)
     (λ c. search needs)
     loop-again
     (λ c κs. search needs)
     (λ c. search needs)
     (λ c. search needs)
-    numbers-at-requires
+    (λ c. search needs)
+    (λ c. search needs)
     add-judge
     (λ c κs. search needs)
     (λ c. search needs)

@@ -1,18 +1,21 @@
 -- The invariant: the operands before operand j are right.
 use Prim.Native.Nat.{_-_, _≤_}
-use mathlib.Core.Path.{_≡_, sym}
+use mathlib.Core.Path.{_≡_, sym, _∙_, ap}
 use mathlib.Core.Bool.{true}
 use native.Mathlib.Omega.{arith}
+use borrow.Author.Tests.{not-true}
 use Rattle.logic.specs.Test.{all}
 use Rattle.logic.proofs.Tests.{all-ends}
 use Rattle.logic.proofs.Loops.{loop-goes-on, loop-fails}
 use Rattle.model.specs.Netlist.{network}
 use Rattle.model.specs.Module.{operandRight}
 use Rattle.model.specs.ModuleFile.{moduleOf}
+use Rattle.file_mod_sources.specs.Judged.{judged}
+use Rattle.file_mod_sources.proofs.Judged.{is-right}
 use Rattle.file_mod_sources.proofs.Operands.{operand-of}
 use borrow.Author.Needs.{needs}
-use Rattle.file_mod_sources.proofs.operands_right.Statement.{statement}
-use Rattle.file_mod_sources.proofs.operands_right.Tie as tie
+use Rattle.file_mod_sources.proofs.judge_operands.Statement.{statement}
+use Rattle.file_mod_sources.proofs.judge_operands.Tie as tie
 
 abbrev Inv-loop : tie.InvT-loop
 Inv-loop net modfile shape place line j₀ j =
@@ -33,7 +36,12 @@ operand-right-requires c κs =
     operand-of _ _ _ _ _ (s .pre .0) (s .pre .1 .0) (s .pre .1 .1) _ is _ (c .before .loop-test .taken) _ (c .nth-operand .ensures)
 
 returns : tie.Need-returns Inv-loop μ-loop
-returns c = sym (loop-fails _ _ (c .before .operand-right .ensures) 4 (c .before .before .before .loop-test .taken) (c .if1 .taken))
+returns c =
+    let tested = c .before in
+    c .judged-by .ensures
+    ∙ ap judged
+    (not-true _ (tested .if1 .taken)
+    ∙ sym (loop-fails _ _ (tested .before .operand-right .ensures) 4 (tested .before .before .before .loop-test .taken) (tested .if1 .taken)))
 
 loop-again : tie.Need-loop-again Inv-loop μ-loop
 loop-again c =
@@ -41,10 +49,10 @@ loop-again c =
     (omega arith, loop-goes-on _ _ (c .before .operand-right .ensures) (loop .inv .1) (c .if1 .left))
 
 returns-2 : tie.Need-returns-2 Inv-loop μ-loop
-returns-2 c = sym (all-ends _ 4 _ (c .before .loop .inv .0) (c .loop-test .left) (c .before .loop .inv .1))
+returns-2 c = is-right ∙ ap judged (sym (all-ends _ 4 _ (c .before .loop .inv .0) (c .loop-test .left) (c .before .loop .inv .1)))
 
-pub operands-right-spec : {M : Type 1} → statement M
-operands-right-spec =
+pub judge-operands-spec : {M : Type 1} → statement M
+judge-operands-spec =
     tie.close
     (tie.spec
     Inv-loop
@@ -53,6 +61,7 @@ operands-right-spec =
     loop-holds
     (λ c κs. search needs)
     operand-right-requires
+    (λ c κs. search needs)
     returns
     (λ c. search needs)
     (λ c. search needs)
