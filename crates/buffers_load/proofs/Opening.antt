@@ -16,7 +16,7 @@ use Rattle.model.specs.Network.{isSignal}
 use Rattle.model.specs.Netlist.{netSize, network}
 use Rattle.model.specs.Value.{valueOf, start}
 use Rattle.model.specs.Module.{noSender}
-use Rattle.model.specs.ModuleFile.{modField, modIndex, modProcessors, modSlots, moduleOf, modCheck}
+use Rattle.model.specs.ModuleFile.{modProcessors, modSlots, moduleOf, modCheck}
 use Rattle.model.specs.Acceptance.{networkOf, givenOf}
 use Rattle.model.specs.Checked.{Checked}
 use Rattle.model.proofs.Accepted.{mod-slot}
@@ -24,13 +24,15 @@ use Rattle.buffers_memory.specs.Memory.{memoryLength, byteProcessor, bytePart, 
 use Rattle.buffers_memory.proofs.Written.{Place, byte-place}
 use Rattle.buffers_memory.proofs.Within.{within-true}
 use Rattle.buffers_tables.specs.Panel.{panelLength, signalOf, columnOf}
+use Rattle.file_mod_table.specs.Line.{LineOf}
+use Rattle.file_mod_table.proofs.Slots.{line-of, send-low, sender-line}
 use Rattle.buffers_load_files.specs.Loaded.{timeZeroFrom, timeZero, placeOf, panelWith, panelOf, openingWith, openingBytes}
 use Rattle.buffers_load_files.specs.Checked.{ModuleChecked, valueIn}
 use Rattle.buffers_load_memory.specs.Bytes.{sentValue, openingByte}
-use Rattle.buffers_load_files.proofs.Fields.{schedules, is-at}
+use Rattle.buffers_load_files.proofs.Fields.{schedules, is-at, lines-laid}
 use Rattle.buffers_load_files.proofs.Arrays.{listed-same, array-at, in-array}
 use Rattle.buffers_load_panel.proofs.Panel.{panel-same}
-use Rattle.buffers_load_memory.proofs.Memory.{byte-outside, byte-local, byte-sent-earlier, byte-sent-present, byte-other, nothing-sent, something-sent, sender-below, location-below}
+use Rattle.buffers_load_memory.proofs.Memory.{byte-outside, byte-local, byte-sent-earlier, byte-sent-present, byte-other, nothing-sent, something-sent}
 
 -- the time 0 value of a signal, and of none
 module _ (files : Files) where
@@ -84,16 +86,19 @@ module _ (files : Files) (values : List ℕ) (e : values ≡ listed 4097 (timeZe
       sent-same p k low-p low-k = go (ℕ-discrete sender noSender)
         where
           sender : ℕ
-          sender = modField modfile (modIndex modfile p k) 13
+          sender = moduleOf modfile .sender p k
+
+          line : LineOf modfile (modSlots modfile) p k
+          line = line-of modfile _ _ p k (lines-laid fits _ _ refl refl) low-p low-k
 
           go : Dec (sender ≡ noSender)
               → sentValue (moduleOf modfile) (valueIn values) p k ≡ sentValue (moduleOf modfile) (start (networkOf files) (givenOf files)) p k
-          go (yes q) = nothing-sent modfile _ p k sender refl q ∙ sym (nothing-sent modfile _ p k sender refl q)
+          go (yes q) = nothing-sent (moduleOf modfile) _ p k sender refl q ∙ sym (nothing-sent (moduleOf modfile) _ p k sender refl q)
           go (no d) =
-              let low : sender < modProcessors modfile = sender-below fits refl low-p low-k d in
-              something-sent modfile _ p k sender refl d _ refl
-              ∙ local-same sender _ low (location-below fits low low-k)
-              ∙ sym (something-sent modfile _ p k sender refl d _ refl)
+              let from = sender-line _ _ _ _ line sender refl d in
+              something-sent (moduleOf modfile) _ p k sender refl d _ refl
+              ∙ local-same sender _ (from .processor) (send-low _ _ _ _ from)
+              ∙ sym (something-sent (moduleOf modfile) _ p k sender refl d _ refl)
 
       byte-same : (a : ℕ) → a < memoryLength
           → openingByte modfile (valueIn values) (byteProcessor a) (bytePart a) (byteLocation a)

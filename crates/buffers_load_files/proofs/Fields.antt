@@ -1,4 +1,4 @@
--- The fields of an accepted MOD: they are right where they are read, and P, C and a line's signal are in range.
+-- What an accepted MOD gives: line 1 is right where it is read, P and C are in range, and the lines after it may be read.
 use Prim.Native.Nat.{ℕ, _+_, _*_, _<_, _≤_}
 use mathlib.Core.Path.{_≡_}
 use mathlib.Core.Bool.{true}
@@ -8,11 +8,14 @@ use Rattle.fields.specs.Field.{isFieldAt}
 use Rattle.model.specs.Refusal.{pass}
 use Rattle.model.specs.Netlist.{network}
 use Rattle.model.specs.Module.{At}
-use Rattle.model.specs.ModuleFile.{modLine, modField, modProcessors, modSlots, modIndex, moduleOf, modCheck}
+use Rattle.model.specs.ModuleFile.{modProcessors, modSlots, moduleOf, modCheck}
 use Rattle.model.specs.Checked.{Checked}
 use Rattle.model.proofs.Checked.{checked-size}
-use Rattle.model.proofs.Accepted.{SlotRight, mod-processors, mod-slots, mod-lines, mod-slot}
+use Rattle.model.proofs.Accepted.{mod-processors, mod-slots, mod-lines}
+use Rattle.model.proofs.Refusals.{first-left, first-right}
 use Rattle.model.proofs.RightLine.{line-field}
+use Rattle.file_mod_lines.proofs.Accepted.{header-sized}
+use Rattle.file_mod_table.specs.Line.{LinesLaid}
 use Rattle.buffers_load_files.specs.Checked.{ModuleChecked}
 
 -- a MOD that is accepted with a checked NET
@@ -36,18 +39,17 @@ module _ {modfile : List ℕ} (s : ModuleChecked modfile) where
   pub slots-field : isFieldAt modfile 6 ≡ true
   slots-field = header-field 1 (omega arith)
 
-  -- the line of a processor and a slot
-  module _ {p i : ℕ} (low-p : p < modProcessors modfile) (low-i : i < modSlots modfile) where
-    pub is-at : At (moduleOf modfile) p i
-    unfolding moduleOf
-    is-at = record { processor = low-p; slot = low-i }
+  pub is-at : {p i : ℕ} → p < modProcessors modfile → i < modSlots modfile → At (moduleOf modfile) p i
+  unfolding moduleOf
+  is-at low-p low-i = record { processor = low-p; slot = low-i }
 
-    pub slot-fits : SlotRight (s .network) modfile p i
-    slot-fits = mod-slot (s .network) modfile (s .passes) p i is-at
-
-    pub field-there : (k x : ℕ) → k < 14 → x ≡ 85 * (1 + p * modSlots modfile + i) + 6 * k → isFieldAt modfile x ≡ true
-    field-there k x h e = rw e (line-field modfile (modLine (modIndex modfile p i)) 14 (slot-fits .line) k h)
-
-    pub signal-few : modField modfile (modIndex modfile p i) 2 ≤ 4096
-    unfolding moduleOf
-    signal-few = omega (arith, slot-fits .signal, s .few)
+  -- its lines may be read with the sizes that line 1 gives
+  pub lines-laid : (p c : ℕ) → p ≡ modProcessors modfile → c ≡ modSlots modfile → LinesLaid modfile p c
+  unfolding modCheck
+  lines-laid p c processors slots =
+      record {
+        sized = header-sized modfile p c (first-left _ _ (s .passes)) processors slots;
+        network = s .network;
+        few = s .few;
+        lines = first-left _ _ (first-right _ _ (s .passes));
+      }

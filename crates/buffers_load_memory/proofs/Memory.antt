@@ -1,59 +1,49 @@
 -- The bytes of the opening memory, by an array of time 0 values, and that the array's values are the signals'.
 use Prim.Native.Nat.{ℕ, zero, suc, _<_, _≤_}
-use mathlib.Core.Path.{_≡_, refl, sym, _∙_}
-use mathlib.Core.Bool.{true, false}
+use mathlib.Core.Path.{_≡_, refl, sym, ap, _∙_}
+use mathlib.Core.Bool.{true, false, not}
 use mathlib.Core.List.{List}
-use mathlib.Core.Logic.{⊎-elim}
 use native.Mathlib.Omega.{arith}
 use native.Mathlib.Decide.{ℕ-discrete}
+use lib.Dec.{eqb}
 use lib.ListN.{getD}
-use borrow.Author.Tests.{ne-eqb}
+use borrow.Author.Tests.{eq-eqb, ne-eqb}
+use Rattle.logic.specs.Choice.{if_then_else_}
 use Rattle.logic.specs.Listed.{listed}
 use Rattle.logic.proofs.Listed.{listed-at}
 use Rattle.model.specs.Value.{valueOf}
-use Rattle.model.specs.Module.{noSender}
+use Rattle.model.specs.Module.{Module, noSender}
 use Rattle.model.specs.Machine.{opening, fetch}
-use Rattle.model.specs.ModuleFile.{modField, modIndex, modProcessors, modSlots, moduleOf}
+use Rattle.model.specs.ModuleFile.{modProcessors, modSlots, moduleOf}
+use Rattle.file_mod_lines.specs.Answer.{Sized}
 use Rattle.buffers_memory.specs.Memory.{memoryLength, blank, place, byteProcessor, bytePart, byteLocation, within}
 use Rattle.buffers_memory.proofs.Within.{is-within, no-processor, no-location}
 use Rattle.buffers_memory.proofs.Written.{Place, place-low, byte-place, written-here, written-else, written-blank}
-use Rattle.buffers_load_files.specs.Checked.{ModuleChecked, valueIn}
+use Rattle.buffers_load_files.specs.Checked.{valueIn}
 use Rattle.buffers_load_memory.specs.Bytes.{sentValue, openingByte}
-use Rattle.buffers_load_files.proofs.Fields.{slot-fits}
 
 -- an empty slot's value is that of index 0
 pub value-in : (values : List ℕ) (s : ℕ) → getD values 0 0 ≡ 0 → getD values s 0 ≡ valueOf (valueIn values) s
 value-in values zero e = e
 value-in values (suc s) e = refl
 
-module _ (modfile : List ℕ) (p i : ℕ) where
-  pub signal-field : moduleOf modfile .signal p i ≡ modField modfile (modIndex modfile p i) 2
-  unfolding moduleOf
-  signal-field = refl
-
 -- what is sent, from the sender's field
-module _ (modfile : List ℕ) (zeroth : ℕ → ℕ) (p k sender : ℕ) (is : sender ≡ modField modfile (modIndex modfile p k) 13) where
-  pub nothing-sent : sender ≡ noSender → sentValue (moduleOf modfile) zeroth p k ≡ 0
-  unfolding sentValue moduleOf
-  nothing-sent e = rw (← is, e)
+module _ (m : Module) (zeroth : ℕ → ℕ) (p k sender : ℕ) (is : sender ≡ m .sender p k) where
+  value-from : ℕ → ℕ
+  value-from y = if not (eqb y noSender) then valueOf zeroth (m .signal y (m .sendLocation y k)) else 0
 
-  pub something-sent : (sender ≡ noSender → ⊥) → (location : ℕ) → location ≡ modField modfile (modIndex modfile sender k) 12
-      → sentValue (moduleOf modfile) zeroth p k ≡ valueOf zeroth (moduleOf modfile .signal sender location)
-  unfolding sentValue moduleOf
-  something-sent d location e = rw (← is, ne-eqb sender noSender d, ← e)
+  by-sender : sentValue m zeroth p k ≡ value-from sender
+  unfolding sentValue value-from
+  by-sender = ap value-from (sym is)
 
--- the processor received from, and the location that it sends
-pub sender-below : {modfile : List ℕ} (s : ModuleChecked modfile) {p k sender : ℕ} → sender ≡ modField modfile (modIndex modfile p k) 13
-    → p < modProcessors modfile → k < modSlots modfile → (sender ≡ noSender → ⊥) → sender < modProcessors modfile
-unfolding moduleOf
-sender-below {modfile} s {p} {k} is low-p low-k d =
-    ⊎-elim (λ (h : modField modfile (modIndex modfile p k) 13 < modProcessors modfile). omega arith)
-    (λ (h : modField modfile (modIndex modfile p k) 13 ≡ noSender). absurd (d (is ∙ h))) (slot-fits s low-p low-k .sender)
+  pub nothing-sent : sender ≡ noSender → sentValue m zeroth p k ≡ 0
+  unfolding value-from
+  nothing-sent e = by-sender ∙ rw (eq-eqb sender noSender e)
 
-pub location-below : {modfile : List ℕ} (s : ModuleChecked modfile) {q k : ℕ} → q < modProcessors modfile → k < modSlots modfile
-    → modField modfile (modIndex modfile q k) 12 < modSlots modfile
-unfolding moduleOf
-location-below s low-q low-k = slot-fits s low-q low-k .send .low
+  pub something-sent : (sender ≡ noSender → ⊥) → (location : ℕ) → location ≡ m .sendLocation sender k
+      → sentValue m zeroth p k ≡ valueOf zeroth (m .signal sender location)
+  unfolding value-from
+  something-sent d location e = by-sender ∙ rw (ne-eqb sender noSender d, e)
 
 -- the bytes
 module _ (modfile : List ℕ) (zeroth : ℕ → ℕ) {p part k : ℕ} (there : Place p part k) where
@@ -91,22 +81,22 @@ module _ (modfile : List ℕ) (zeroth : ℕ → ℕ) {p part k : ℕ} (there : P
             written-blank _ _ _ p part k l ∙ blank-byte
 
 -- byte a of the memory as the code tells it, by its tests of the processor, the location and the part
-module _ (modfile : List ℕ) (zeroth : ℕ → ℕ) {P C a : ℕ} (fits : (P ≡ modProcessors modfile) × (C ≡ modSlots modfile) × (a < memoryLength)) where
+module _ (modfile : List ℕ) (zeroth : ℕ → ℕ) {P C a : ℕ} (sized : Sized modfile P C) (low : a < memoryLength) where
   abbrev Told : ℕ → Type 0
   Told byte = byte ≡ openingByte modfile zeroth (byteProcessor a) (bytePart a) (byteLocation a)
 
   there : Place (byteProcessor a) (bytePart a) (byteLocation a)
-  there = byte-place a (fits .2)
+  there = byte-place a low
 
   pub told-no-processor : P ≤ byteProcessor a → Told 0
-  told-no-processor h = sym (byte-outside modfile zeroth there (no-processor (modProcessors modfile) (modSlots modfile) (byteProcessor a) (byteLocation a) (omega arith)))
+  told-no-processor h = sym (byte-outside modfile zeroth there (no-processor (modProcessors modfile) (modSlots modfile) (byteProcessor a) (byteLocation a) (omega (arith, sized .processors))))
 
   pub told-no-location : C ≤ byteLocation a → Told 0
-  told-no-location h = sym (byte-outside modfile zeroth there (no-location (modProcessors modfile) (modSlots modfile) (byteProcessor a) (byteLocation a) (omega arith)))
+  told-no-location h = sym (byte-outside modfile zeroth there (no-location (modProcessors modfile) (modSlots modfile) (byteProcessor a) (byteLocation a) (omega (arith, sized .slots))))
 
   module _ (p : byteProcessor a < P) (k : byteLocation a < C) where
     inside : within (modProcessors modfile) (modSlots modfile) (byteProcessor a) (byteLocation a) ≡ true
-    inside = is-within (modProcessors modfile) (modSlots modfile) (byteProcessor a) (byteLocation a) (omega arith) (omega arith)
+    inside = is-within (modProcessors modfile) (modSlots modfile) (byteProcessor a) (byteLocation a) (omega (arith, sized .processors)) (omega (arith, sized .slots))
 
     pub told-local : bytePart a ≡ 0 → (byte : ℕ) → byte ≡ valueOf zeroth (moduleOf modfile .signal (byteProcessor a) (byteLocation a)) → Told byte
     told-local e byte is = is ∙ sym (byte-local modfile zeroth there inside e)

@@ -15,12 +15,12 @@ use Rattle.gates.specs.Function.{isFunction}
 use Rattle.gates.specs.Translation.{isTranslation}
 use Rattle.fields.specs.Field.{numberAt}
 use Rattle.model.specs.Network.{input, unitDelay, rankOrder}
-use Rattle.model.specs.Netlist.{netField, netSize, network}
+use Rattle.model.specs.Netlist.{netField, netSize, codes, network}
 use Rattle.model.specs.ModuleFile.{modProcessors, modSlots}
 use Rattle.model.specs.Checked.{Checked}
 use Rattle.model.proofs.Accepted.{SignalRight}
 use Rattle.model.proofs.Checked.{checked-signal}
-use Rattle.buffers_tables.specs.Panel.{panelLength, codesColumn, handColumn, headBytes, signalOf, columnOf}
+use Rattle.buffers_tables.specs.Panel.{panelLength, codesColumn, handColumn, headBytes, signalBytes, signalOf, columnOf}
 use Rattle.buffers_load_files.specs.Loaded.{placeOf, placedBytes, panelByte, panelWith}
 use Rattle.buffers_load_files.specs.Checked.{valueIn}
 use Rattle.buffers_load_files.proofs.Arrays.{listed-same, array-at, in-array}
@@ -58,8 +58,8 @@ module _ (net : List ℕ) (checked : Checked net) {s : ℕ} (low : 1 ≤ s) (hig
 pub kind-byte : (net : List ℕ) (s : ℕ) → numberAt net (73 * s) ≡ netField net s 0
 kind-byte net s = let e : 73 * s + 6 * 0 ≡ 73 * s = omega arith in ap (λ (x : ℕ). numberAt net x) (sym e)
 
-module _ (net : List ℕ) (s v line slots : ℕ) where
-  pub code-byte : (c : ℕ) → codesColumn ≤ c → c < handColumn → netField net s (c + 1) ≡ getD (placedBytes net s v line slots) c 0
+module _ (net : List ℕ) (s v p i : ℕ) where
+  pub code-byte : (c : ℕ) → codesColumn ≤ c → c < handColumn → netField net s (c + 1) ≡ getD (signalBytes (netField net s 0) (codes net s) v p i) c 0
   code-byte zero l h = absurd (omega arith)
   code-byte (suc zero) l h = refl
   code-byte (suc (suc zero)) l h = refl

@@ -14,17 +14,14 @@ use borrow.Author.Tests.{eq-eqb, ne-eqb, eqb-true, eqb-false}
 use Rattle.logic.specs.Choice.{if_then_else_}
 use Rattle.logic.specs.Listed.{listed}
 use Rattle.logic.proofs.Listed.{listed-length, listed-at, is-listed}
-use Rattle.fields.specs.Field.{isFieldAt}
 use Rattle.model.specs.Module.{Module, At}
 use Rattle.model.specs.ModuleFile.{modField, modIndex, modProcessors, modSlots, moduleOf}
-use Rattle.model.proofs.Accepted.{mod-lines}
 use Rattle.model.proofs.Conditions.{Placed}
-use Rattle.model.proofs.RightLine.{line-field}
 use Rattle.file_mod_lines.proofs.Lines.{line-index}
 use Rattle.buffers_load_files.specs.Loaded.{placeBelow, placeOf}
 use Rattle.buffers_load_files.specs.Checked.{ModuleChecked}
 use Rattle.buffers_load_panel.specs.Lines.{LineNumbers}
-use Rattle.buffers_load_files.proofs.Fields.{processors-range, slots-range, is-at, signal-few}
+use Rattle.buffers_load_files.proofs.Fields.{processors-range, slots-range, is-at}
 
 place-low : (m : Module) (s k : ℕ) → placeBelow m s k ≤ k
 unfolding placeBelow
@@ -69,53 +66,38 @@ pub record PlacesTo (modfile : List ℕ) (k : ℕ) (places : List ℕ) : Type 0 
   pub lines : (s : ℕ) → s ≤ 4096 → getD places s 0 ≡ placeBelow (moduleOf modfile) s k
 
 module _ {modfile : List ℕ} (s : ModuleChecked modfile) where
-  pub few-lines : modProcessors modfile * modSlots modfile ≤ 4096
-  few-lines =
-      mul-le-mul {n₁ = modProcessors modfile} {m₁ = modSlots modfile} {n₂ = 16} {m₂ = 256} (processors-range s .1) (slots-range s .1)
-
   some-lines : 1 ≤ modProcessors modfile * modSlots modfile
   some-lines = mul-le-mul {n₁ = 1} {m₁ = 1} {n₂ = modProcessors modfile} {m₂ = modSlots modfile} (processors-range s .0) (slots-range s .0)
 
-  module _ {k : ℕ} (h : k < modProcessors modfile * modSlots modfile) where
-    pub line-signal-field : isFieldAt modfile (85 * (k + 1) + 12) ≡ true
-    line-signal-field = line-field modfile (85 * (k + 1)) 14 (mod-lines (s .network) modfile (s .passes) (k + 1) (omega arith)) 2 (omega arith)
+-- one line more
+module _ {modfile : List ℕ} {k : ℕ} (h : k < modProcessors modfile * modSlots modfile) {places : List ℕ} (so-far : PlacesTo modfile k places)
+    (signal : ℕ) (is : signal ≡ modField modfile (k + 1) 2) (few : signal ≤ 4096) where
+  line-here : modField modfile (modIndex modfile (k / modSlots modfile) (k % modSlots modfile)) 2 ≡ signal
+  line-here = ap (λ (x : ℕ). modField modfile x 2) (line-index modfile k) ∙ sym is
 
-    line-here : modField modfile (modIndex modfile (k / modSlots modfile) (k % modSlots modfile)) 2 ≡ modField modfile (k + 1) 2
-    line-here = ap (λ (x : ℕ). modField modfile x 2) (line-index modfile k)
+  there : placeBelow (moduleOf modfile) signal (k + 1) ≡ k
+  unfolding placeBelow moduleOf
+  there = rw (add-one k, eq-eqb (modField modfile (modIndex modfile (k / modSlots modfile) (k % modSlots modfile)) 2) signal line-here)
 
-    pub line-signal-few : modField modfile (k + 1) 2 ≤ 4096
-    line-signal-few =
-        let C = modSlots modfile in
-        let p : k / C < modProcessors modfile = div-lt-iff-lt-mul {k = C} {x = k} {y = modProcessors modfile} (omega (arith, slots-range s)) .1 h in
-        let i : k % C < C = mod-lt k {m = C} (omega (arith, slots-range s)) in
-        omega (arith, signal-few s p i, line-here)
+  elsewhere : (x : ℕ) → (x ≡ signal → ⊥) → placeBelow (moduleOf modfile) x k ≡ placeBelow (moduleOf modfile) x (k + 1)
+  unfolding placeBelow moduleOf
+  elsewhere x d =
+      rw (
+        add-one k,
+        ne-eqb (modField modfile (modIndex modfile (k / modSlots modfile) (k % modSlots modfile)) 2) x (λ e. d (sym e ∙ line-here)),
+      )
 
-    -- one line more
-    module _ {places : List ℕ} (so-far : PlacesTo modfile k places) (signal : ℕ) (is : signal ≡ modField modfile (k + 1) 2) where
-      there : placeBelow (moduleOf modfile) signal (k + 1) ≡ k
-      unfolding placeBelow moduleOf
-      there = rw (add-one k, eq-eqb (modField modfile (modIndex modfile (k / modSlots modfile) (k % modSlots modfile)) 2) signal (line-here ∙ sym is))
-
-      elsewhere : (x : ℕ) → (x ≡ signal → ⊥) → placeBelow (moduleOf modfile) x k ≡ placeBelow (moduleOf modfile) x (k + 1)
-      unfolding placeBelow moduleOf
-      elsewhere x d =
-          rw (
-            add-one k,
-            ne-eqb (modField modfile (modIndex modfile (k / modSlots modfile) (k % modSlots modfile)) 2) x
-                (λ e. d (sym e ∙ line-here ∙ sym is)),
-          )
-
-      pub places-more : PlacesTo modfile (k + 1) (set places signal k)
-      places-more =
-          record {
-            size = length-set places signal k ∙ so-far .size;
-            low = omega arith;
-            lines = λ x b. at x b (ℕ-discrete x signal);
-          }
-        where
-          at : (x : ℕ) → x ≤ 4096 → Dec (x ≡ signal) → getD (set places signal k) x 0 ≡ placeBelow (moduleOf modfile) x (k + 1)
-          at x b (yes e) = rw e (getD-set-same places signal k 0 (omega (arith, so-far .size, line-signal-few)) ∙ sym there)
-          at x b (no d) = getD-set-other places signal x k 0 d ∙ so-far .lines x b ∙ elsewhere x d
+  pub places-more : PlacesTo modfile (k + 1) (set places signal k)
+  places-more =
+      record {
+        size = length-set places signal k ∙ so-far .size;
+        low = omega arith;
+        lines = λ x b. at x b (ℕ-discrete x signal);
+      }
+    where
+      at : (x : ℕ) → x ≤ 4096 → Dec (x ≡ signal) → getD (set places signal k) x 0 ≡ placeBelow (moduleOf modfile) x (k + 1)
+      at x b (yes e) = rw e (getD-set-same places signal k 0 (omega (arith, so-far .size)) ∙ sym there)
+      at x b (no d) = getD-set-other places signal x k 0 d ∙ so-far .lines x b ∙ elsewhere x d
 
 pub places-start : (modfile places : List ℕ) → length places ≡ 4097 → ((s : ℕ) → s ≤ 4096 → getD places s 0 ≡ 0) → PlacesTo modfile 0 places
 unfolding placeBelow

@@ -18,6 +18,7 @@ use buffers_tables::SEND;
 use buffers_tables::SENDER;
 use buffers_tables::SLOT_LINES;
 use buffers_tables::SLOT_STRIDE;
+use clock::Slot;
 
 // 1 where a number reaches a limit that it has to stay below, else 0.
 fn reaches(x: u16, limit: u16) -> u8
@@ -76,11 +77,11 @@ fn line_right(program: &[u8], at: usize, signals: u16, processors: u8, slots: u1
 }
 
 // The 16 lines of a slot: those of P processors, and zeros.
-fn slot_right(program: &[u8], slot: usize, signals: u16, processors: u8, slots: u16) -> bool
-    requires { ⌜ (length (now program) ≡ programLength) × (slot < 256) × (processors ≤ 16) × (1 ≤ slots) ⌝ }
-    ensures { λ r. ⌜ r ≡ slotAt (now (program .entry)) slot signals processors slots ⌝ }
+fn slot_right(program: &[u8], slot: Slot, signals: u16, processors: u8, slots: u16) -> bool
+    requires { ⌜ (length (now program) ≡ programLength) × (slot .0 < 256) × (processors ≤ 16) × (1 ≤ slots) ⌝ }
+    ensures { λ r. ⌜ r ≡ slotAt (now (program .entry)) (slot .0) signals processors slots ⌝ }
 {
-    let at = SLOT_STRIDE * slot;
+    let at = SLOT_STRIDE * (slot.0 as usize);
     let lines = processors as usize;
     let mut p: usize = 0;
     while p < lines {
@@ -101,14 +102,14 @@ fn slots_right(program: &[u8], signals: u16, processors: u8, slots: u16) -> bool
     requires { ⌜ (length (now program) ≡ programLength) × (processors ≤ 16) × (slots ≤ 256) ⌝ }
     ensures { λ r. ⌜ r ≡ slotsAt (now (program .entry)) signals processors slots ⌝ }
 {
-    let count = slots as usize;
-    let mut i: usize = 0;
-    while i < count {
-        if !slot_right(program, i, signals, processors, slots) {
+    let mut i: u16 = 0;
+    while i < slots {
+        if !slot_right(program, Slot(i), signals, processors, slots) {
             return false;
         }
         i += 1;
     }
+    let count = slots as usize;
     buffers_runs::all_zero(program, SLOT_STRIDE * count, SLOT_STRIDE * (256 - count))
 }
 

@@ -1,4 +1,3 @@
-pub mod Numbered
 pub mod Counts
 pub mod Testing
 pub mod Formed

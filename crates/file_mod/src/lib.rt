@@ -6,12 +6,12 @@ use file_mod_lines::Shape;
 use file_mod_sources::Judgement;
 use file_mod_sources::judged_by;
 ghost use mathlib.Core.Path.{_≡_};
-ghost use Prim.Native.Nat.{ℕ, _+_, _*_, _<_, _≤_};
+ghost use Prim.Native.Nat.{ℕ, _<_, _≤_};
 ghost use lib.ListN.{length, getD};
 ghost use Rattle.model.specs.Network.{Network};
 ghost use Rattle.model.specs.Netlist.{netSize, network};
 ghost use Rattle.model.specs.Module.{placements};
-ghost use Rattle.model.specs.ModuleFile.{modField, moduleOf, placed, modCheck};
+ghost use Rattle.model.specs.ModuleFile.{moduleOf, placed, modCheck};
 ghost use Rattle.model.specs.Checked.{Checked};
 ghost use Rattle.file_lines.specs.Answer.{Answers};
 ghost use Rattle.file_mod_lines.specs.Answer.{modRefusal, ModAnswers};
@@ -28,15 +28,6 @@ enum Test {
     Operands,
 }
 
-// The signal of line k after the first.
-fn signal_of(modfile: &[u8], shape: Shape, k: usize) -> usize
-    requires { ⌜ LinesLaid (now modfile) (shape .processors) (shape .slots) ⌝ }
-    requires { ⌜ (k < shape .processors * shape .slots) × (k < 4096) ⌝ }
-    ensures { λ r. ⌜ (r ≡ modField (now (modfile .entry)) (k + 1) 2) × (r ≤ 4096) ⌝ }
-{
-    file_mod_table::signal_at(modfile, shape, file_mod_lines::place_of(k, shape)) as usize
-}
-
 // How often each signal is placed, counted line by line.
 fn count_signals(modfile: &[u8], shape: Shape, counts: &mut [u16])
     requires { ⌜ LinesLaid (now modfile) (shape .processors) (shape .slots) ⌝ }
@@ -46,7 +37,7 @@ fn count_signals(modfile: &[u8], shape: Shape, counts: &mut [u16])
     let lines = file_mod_lines::line_count(shape);
     let mut k: usize = 0;
     while k < lines {
-        let signal = signal_of(modfile, shape, k);
+        let signal = file_mod_table::signal_of(modfile, shape, k);
         counts[signal] += 1;
         k += 1;
     }

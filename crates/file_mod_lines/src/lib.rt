@@ -158,20 +158,12 @@ pub fn place_of(k: usize, shape: Shape) -> Place
     }
 }
 
-// Where the line of a processor and a slot stands in MOD.
-pub fn line_place(processor: u16, slot: u16, slots: u16) -> usize
-    requires { ⌜ (processor < 16) × (slot < 256) × (slots ≤ 256) ⌝ }
-    ensures { λ r. ⌜ (r ≡ 85 * (1 + processor * slots + slot)) × (r ≤ 348160) ⌝ }
-{
-    85 * (1 + (processor as usize) * (slots as usize) + (slot as usize))
-}
-
-// The same of a place.
+// Where the line of a place stands in MOD.
 pub fn line_at(place: Place, shape: Shape) -> usize
     requires { ⌜ (place .processor < 16) × (place .slot .0 < 256) × (shape .slots ≤ 256) ⌝ }
     ensures { λ r. ⌜ (r ≡ 85 * (1 + place .processor * shape .slots + place .slot .0)) × (r ≤ 348160) ⌝ }
 {
-    line_place(place.processor, place.slot.0, shape.slots)
+    85 * (1 + (place.processor as usize) * (shape.slots as usize) + (place.slot.0 as usize))
 }
 
 // The lines after the first, in their order: 20, then 21, and left at the first fault with its line.

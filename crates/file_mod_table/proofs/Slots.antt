@@ -1,5 +1,5 @@
 -- What a right line has: its fields are right where they are read, its numbers are the module's, and they are in their ranges.
-use Prim.Native.Nat.{ℕ, _+_, _*_, _<_}
+use Prim.Native.Nat.{ℕ, _+_, _*_, _<_, _≤_}
 use mathlib.Core.Path.{_≡_, ap, subst, _∙_}
 use mathlib.Core.Bool.{true}
 use mathlib.Core.List.{List}
@@ -42,6 +42,10 @@ module _ (l : List ℕ) (c q i : ℕ) (line : LineOf l c q i) where
 
     pub field-read : numberAt l (place + 6 * column) ≡ modField l (modIndex l q i) column
     field-read = ap (λ (x : ℕ). numberAt l x) at-line
+
+  pub signal-most : moduleOf l .signal q i ≤ 4096
+  unfolding moduleOf
+  signal-most = omega (arith, slot-laid .signal, line .laid .few)
 
   pub send-low : moduleOf l .sendLocation q i < c
   unfolding moduleOf

@@ -5,17 +5,17 @@ use file_mod_lines::Shape;
 use instruction::Instruction;
 use instruction::Operand;
 ghost use mathlib.Core.Path.{_≡_};
-ghost use Prim.Native.Nat.{_<_};
-ghost use Rattle.model.specs.ModuleFile.{moduleOf};
+ghost use Prim.Native.Nat.{_+_, _*_, _<_, _≤_};
+ghost use Rattle.model.specs.ModuleFile.{modIndex, modField, moduleOf};
 ghost use Rattle.instruction.specs.Instruction.{instructionOf};
-ghost use Rattle.file_mod_table.specs.Line.{LineOf};
-ghost use Rattle.file_mod_table.specs.Mirror.{columnOf, pairOf};
+ghost use Rattle.file_mod_table.specs.Line.{LinesLaid, LineOf};
+ghost use Rattle.file_mod_table.specs.Mirror.{pairOf};
 
 // The number in a column of the line at a place: every reader of MOD's lines comes here.
-fn column_at(modfile: &[u8], shape: Shape, place: Place, column: usize) -> u16
+pub fn column_at(modfile: &[u8], shape: Shape, place: Place, column: usize) -> u16
     requires { ⌜ LineOf (now modfile) (shape .slots) (place .processor) (place .slot .0) ⌝ }
     requires { ⌜ column < 14 ⌝ }
-    ensures { λ r. ⌜ r ≡ columnOf (now (modfile .entry)) (place .processor) (place .slot .0) column ⌝ }
+    ensures { λ r. ⌜ r ≡ modField (now (modfile .entry)) (modIndex (now (modfile .entry)) (place .processor) (place .slot .0)) column ⌝ }
 {
     let line = file_mod_lines::line_at(place, shape);
     fields::number_at(modfile, line + 6 * column)
@@ -27,6 +27,15 @@ pub fn signal_at(modfile: &[u8], shape: Shape, place: Place) -> u16
     ensures { λ r. ⌜ r ≡ moduleOf (now (modfile .entry)) .signal (place .processor) (place .slot .0) ⌝ }
 {
     column_at(modfile, shape, place, 2)
+}
+
+// The signal of line k after the first, for use as an index.
+pub fn signal_of(modfile: &[u8], shape: Shape, k: usize) -> usize
+    requires { ⌜ LinesLaid (now modfile) (shape .processors) (shape .slots) ⌝ }
+    requires { ⌜ (k < shape .processors * shape .slots) × (k < 4096) ⌝ }
+    ensures { λ r. ⌜ (r ≡ modField (now (modfile .entry)) (k + 1) 2) × (r ≤ 4096) ⌝ }
+{
+    signal_at(modfile, shape, file_mod_lines::place_of(k, shape)) as usize
 }
 
 // The pair that is sent: its part, 9 where nothing is sent.

@@ -10,13 +10,13 @@ use Rattle.buffers_load_memory.proofs.load_memory.Statement.{statement}
 use Rattle.buffers_load_memory.proofs.load_memory.Tie as tie
 
 abbrev Inv-loop : tie.InvT-loop
-Inv-loop modfile values memory₀ processors slots a₀ memory a = Filled (λ a. openingByte modfile (valueIn values) (byteProcessor a) (bytePart a) (byteLocation a)) memoryLength a memory
+Inv-loop modfile values memory₀ shape a₀ memory a = Filled (λ a. openingByte modfile (valueIn values) (byteProcessor a) (bytePart a) (byteLocation a)) memoryLength a memory
 
 abbrev μ-loop : tie.MeasureT-loop
-μ-loop modfile values memory₀ processors slots a₀ memory a = memoryLength - a
+μ-loop modfile values memory₀ shape a₀ memory a = memoryLength - a
 
 loop-holds : tie.Need-loop-holds Inv-loop μ-loop
-loop-holds c = fill-starts _ _ _ (c .before .before .before .before .before .pre .1 .2)
+loop-holds c = fill-starts _ _ _ (c .before .before .before .before .pre .1 .2)
 
 loop-again : tie.Need-loop-again Inv-loop μ-loop
 loop-again c = fill-more (c .before .before .loop .inv) _ (omega arith) (c .memory-byte .ensures)
@@ -31,7 +31,6 @@ load-memory-spec =
     (tie.spec
     Inv-loop
     μ-loop
-    (λ c κs. search needs)
     (λ c κs. search needs)
     loop-holds
     (λ c κs. search needs)

@@ -10,10 +10,10 @@ use Rattle.buffers_load_panel.proofs.fill_panel.Statement.{statement}
 use Rattle.buffers_load_panel.proofs.fill_panel.Tie as tie
 
 abbrev Inv-loop : tie.InvT-loop
-Inv-loop net places values processors slots panel₀ signals a₀ panel a = Filled (λ a. panelByte net processors slots (valueIn places) (valueIn values) (signalOf a) (columnOf a)) panelLength a panel
+Inv-loop net places values shape panel₀ signals a₀ panel a = Filled (λ a. panelByte net (shape .processors) (shape .slots) (valueIn places) (valueIn values) (signalOf a) (columnOf a)) panelLength a panel
 
 abbrev μ-loop : tie.MeasureT-loop
-μ-loop net places values processors slots panel₀ signals a₀ panel a = panelLength - a
+μ-loop net places values shape panel₀ signals a₀ panel a = panelLength - a
 
 loop-holds : tie.Need-loop-holds Inv-loop μ-loop
 loop-holds c = fill-starts _ _ _ (c .before .before .before .before .before .pre .1 .0 .3)

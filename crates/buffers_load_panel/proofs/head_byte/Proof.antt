@@ -12,15 +12,15 @@ returns-2 : tie.Need-returns-2
 returns-2 c = rw (c .if2 .taken)
 
 returns-4 : tie.Need-returns-4
-returns-4 c = rw (c .if4 .taken)
+returns-4 c = rw (c .before .if4 .taken)
 
 returns-5 : tie.Need-returns-5
-returns-5 c = rw (c .if5 .taken)
+returns-5 c = rw (c .before .if5 .taken)
 
 returns-7 : tie.Need-returns-7
 returns-7 c =
     let s = c .before .before .before .before .before .before in
-    sym (head-zeros (s .args .signals) (s .args .processors) (s .args .slots) (s .args .column) (c .before .before .before .before .before .if1 .left) (c .before .before .before .before .if2 .left) (c .before .before .before .if3 .left) (c .before .before .if4 .left) (c .before .if5 .left) (c .if6 .left) (s .pre .3))
+    sym (head-zeros (s .args .signals) (s .args .shape .processors) (s .args .shape .slots) (s .args .column) (c .before .before .before .before .before .if1 .left) (c .before .before .before .before .if2 .left) (c .before .before .before .if3 .left) (c .before .before .if4 .left) (c .before .if5 .left) (c .if6 .left) (s .pre .3))
 
 pub head-byte-spec : {M : Type 1} → statement M
 head-byte-spec =

@@ -4,7 +4,7 @@ use Prim.Native.Nat.{_*_, _≤_}
 use native.Mathlib.Omega.{arith}
 use Rattle.buffers_tables.specs.Panel.{codesColumn, slotColumn}
 use Rattle.model.proofs.Checked.{checked-size, checked-field}
-use Rattle.buffers_load_panel.proofs.Panel.{kind-small, code-small, kind-byte, code-byte, line-processor, line-slot}
+use Rattle.buffers_load_panel.proofs.Panel.{kind-small, code-small, kind-byte, code-byte}
 use borrow.Author.Needs.{needs}
 use Rattle.buffers_load_panel.proofs.signal_byte.Statement.{statement}
 use Rattle.buffers_load_panel.proofs.signal_byte.Tie as tie
@@ -42,19 +42,10 @@ returns-2 c =
     let low : codesColumn ≤ s .args .column = omega (arith, c .before .before .if1 .left) in
     c .number-at2 .ensures ∙ code-byte (s .args .net .now) (s .args .signal) _ _ _ (s .args .column) low (c .before .if2 .taken)
 
-cast-result-3 : tie.Need-cast-result-3
-cast-result-3 c = let s = c .before .before .before .before .before in omega (arith, line-processor (s .args .line) (s .args .slots) (s .pre .1 .2) (s .pre .1 .4))
-
-returns-4 : tie.Need-returns-4
-returns-4 c = rw (c .if4 .taken)
-
-cast-result-4 : tie.Need-cast-result-4
-cast-result-4 c = let s = c .before .before .before .before .before in omega (arith, line-slot (s .args .line) (s .args .slots) (s .pre .1 .2), s .pre .1 .3)
-
 returns-5 : tie.Need-returns-5
 returns-5 c =
-    let s = c .before .before .before .before .before in
-    let e : s .args .column ≡ slotColumn = omega (arith, s .pre .1 .5) in
+    let s = c .before .before .before .before .before .before .before in
+    let e : s .args .column ≡ slotColumn = omega (arith, s .pre .1 .4) in
     rw e
 
 pub signal-byte-spec : {M : Type 1} → statement M
@@ -74,8 +65,6 @@ signal-byte-spec =
     returns-2
     (λ c. search needs)
     (λ c. search needs)
-    cast-result-3
-    returns-4
     (λ c. search needs)
-    cast-result-4
+    (λ c. search needs)
     returns-5)

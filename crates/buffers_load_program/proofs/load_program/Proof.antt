@@ -9,13 +9,13 @@ use Rattle.buffers_load_program.proofs.load_program.Statement.{statemen
 use Rattle.buffers_load_program.proofs.load_program.Tie as tie
 
 abbrev Inv-loop : tie.InvT-loop
-Inv-loop modfile program₀ processors slots a₀ program a = Filled (λ a. programByte modfile (lineProcessor a) (lineSlot a) (lineColumn a)) programLength a program
+Inv-loop modfile program₀ shape a₀ program a = Filled (λ a. programByte modfile (lineProcessor a) (lineSlot a) (lineColumn a)) programLength a program
 
 abbrev μ-loop : tie.MeasureT-loop
-μ-loop modfile program₀ processors slots a₀ program a = programLength - a
+μ-loop modfile program₀ shape a₀ program a = programLength - a
 
 loop-holds : tie.Need-loop-holds Inv-loop μ-loop
-loop-holds c = fill-starts _ _ _ (c .before .before .before .before .pre .1)
+loop-holds c = fill-starts _ _ _ (c .before .before .before .pre .1)
 
 loop-again : tie.Need-loop-again Inv-loop μ-loop
 loop-again c = fill-more (c .before .before .loop .inv) _ (omega arith) (c .program-byte .ensures)
@@ -30,7 +30,6 @@ load-program-spec =
     (tie.spec
     Inv-loop
     μ-loop
-    (λ c κs. search needs)
     (λ c κs. search needs)
     loop-holds
     (λ c κs. search needs)

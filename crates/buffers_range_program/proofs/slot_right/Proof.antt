@@ -12,10 +12,10 @@ use Rattle.buffers_range_program.proofs.slot_right.Statement.{statement
 use Rattle.buffers_range_program.proofs.slot_right.Tie as tie
 
 abbrev Inv-loop : tie.InvT-loop
-Inv-loop program slot signals processors slots at lines p₀ p = (p ≤ lines) × (all p (λ q. lineAt program (at + lineStride * q) signals processors slots) ≡ true)
+Inv-loop program signals processors slots at lines p₀ p = (p ≤ lines) × (all p (λ q. lineAt program (at + lineStride * q) signals processors slots) ≡ true)
 
 abbrev μ-loop : tie.MeasureT-loop
-μ-loop program slot signals processors slots at lines p₀ p = lines - p
+μ-loop program signals processors slots at lines p₀ p = lines - p
 
 loop-holds : tie.Need-loop-holds Inv-loop μ-loop
 unfolding all
@@ -40,6 +40,7 @@ slot-right-spec =
     (tie.spec
     Inv-loop
     μ-loop
+    (λ c. search needs)
     (λ c. search needs)
     loop-holds
     (λ c. search needs)

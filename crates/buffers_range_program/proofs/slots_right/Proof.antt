@@ -11,10 +11,10 @@ use Rattle.buffers_range_program.proofs.slots_right.Statement.{statemen
 use Rattle.buffers_range_program.proofs.slots_right.Tie as tie
 
 abbrev Inv-loop : tie.InvT-loop
-Inv-loop program signals processors slots count i₀ i = (i ≤ count) × (all i (λ j. slotAt program j signals processors slots) ≡ true)
+Inv-loop program signals processors slots i₀ i = (i ≤ slots) × (all i (λ j. slotAt program j signals processors slots) ≡ true)
 
 abbrev μ-loop : tie.MeasureT-loop
-μ-loop program signals processors slots count i₀ i = count - i
+μ-loop program signals processors slots i₀ i = slots - i
 
 loop-holds : tie.Need-loop-holds Inv-loop μ-loop
 unfolding all

@@ -5,7 +5,8 @@ use native.Mathlib.Omega.{arith}
 use Rattle.model.specs.Refusal.{pass, firstBelow}
 use Rattle.model.specs.Netlist.{network}
 use Rattle.file_mod_sources.proofs.Judged.{judged-right, judged-wrong}
-use Rattle.file_mod.proofs.Numbered.{line-numbered, signal-numbered}
+use Rattle.file_mod_table.proofs.Numbered.{line-numbered}
+use Rattle.file_mod.proofs.Formed.{signal-numbered}
 use Rattle.file_mod.proofs.Testing.{lineTest, each-stops, each-goes-on, each-ends}
 use borrow.Author.Needs.{needs}
 use Rattle.file_mod.proofs.check_each.Statement.{statement}

@@ -1,10 +1,10 @@
 -- The signal at the place of line k is the one that line k has (`signal-read`), and at most 4096 (`signal-few`).
 use mathlib.Core.Path.{_∙_}
 use native.Mathlib.Omega.{arith}
-use Rattle.file_mod.proofs.Numbered.{line-numbered, signal-read, signal-few}
+use Rattle.file_mod_table.proofs.Numbered.{line-numbered, signal-read, signal-few}
 use borrow.Author.Needs.{needs}
-use Rattle.file_mod.proofs.signal_of.Statement.{statement}
-use Rattle.file_mod.proofs.signal_of.Tie as tie
+use Rattle.file_mod_table.proofs.signal_of.Statement.{statement}
+use Rattle.file_mod_table.proofs.signal_of.Tie as tie
 
 place-of-requires : tie.Need-place-of-requires
 place-of-requires c κs = let s = c .before in (s .pre .1 .1, s .pre .0 .sized .slots-low)

@@ -4,18 +4,16 @@ use mathlib.Core.Path.{_≡_, ap, _∙_}
 use mathlib.Core.List.{List}
 use native.Mathlib.Omega.{arith}
 use native.Mathlib.Nat.{div-lt-iff-lt-mul, mod-lt}
-use Rattle.model.specs.Netlist.{netSize}
 use Rattle.model.specs.ModuleFile.{modIndex, modField, moduleOf}
 use Rattle.file_mod_lines.proofs.Lines.{line-index}
 use Rattle.file_mod_table.specs.Line.{LinesLaid, LineOf}
-use Rattle.file_mod_table.proofs.Slots.{line-of, slot-laid}
-use Rattle.file_mod.specs.Formed.{Formed}
+use Rattle.file_mod_table.proofs.Slots.{line-of, signal-most}
 
 module _ (l : List ℕ) (p c : ℕ) (laid : LinesLaid l p c) (k : ℕ) (low : k < p * c) where
-  at-processor : k / c < p
+  pub at-processor : k / c < p
   at-processor = div-lt-iff-lt-mul {k = c} {x = k} {y = p} (omega (arith, laid .sized .slots-low)) .1 low
 
-  at-slot : k % c < c
+  pub at-slot : k % c < c
   at-slot = mod-lt k {m = c} (omega (arith, laid .sized .slots-low))
 
   pub line-numbered : LineOf l c (k / c) (k % c)
@@ -30,14 +28,4 @@ module _ (l : List ℕ) (p c : ℕ) (laid : LinesLaid l p c) (k : ℕ) (low : k 
   signal-read = ap (λ (n : ℕ). modField l n 2) index
 
   pub signal-few : modField l (k + 1) 2 ≤ 4096
-  unfolding moduleOf
-  signal-few =
-      let right : modField l (modIndex l (k / c) (k % c)) 2 ≤ line-numbered .laid .network .size =
-      slot-laid l c (k / c) (k % c) line-numbered .signal in
-      omega (arith, rw index at right, line-numbered .laid .few)
-
--- its signal is one of the network's
-pub signal-numbered : (net l : List ℕ) (p c : ℕ) → Formed net l p c → (k : ℕ) → k < p * c
-    → moduleOf l .signal (k / c) (k % c) ≤ netSize net
-signal-numbered net l p c formed k low =
-    formed .within (k / c) (k % c) (at-processor l p c (formed .laid) k low) (at-slot l p c (formed .laid) k low)
+  signal-few = omega (arith, signal-read, signal-most l c (k / c) (k % c) line-numbered)
