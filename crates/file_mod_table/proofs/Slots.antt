@@ -1,18 +1,18 @@
 -- What a right line has: its fields are right where they are read, its numbers are the module's, and they are in their ranges.
 use Prim.Native.Nat.{ℕ, _+_, _*_, _<_, _≤_}
-use mathlib.Core.Path.{_≡_, ap, subst, _∙_}
+use mathlib.Core.Path.{_≡_, sym, ap, subst, _∙_}
 use mathlib.Core.Bool.{true}
 use mathlib.Core.List.{List}
 use mathlib.Core.Logic.{⊎-elim}
 use native.Mathlib.Omega.{arith}
 use native.Mathlib.Decide.{ℕ-discrete}
-use Rattle.fields.specs.Field.{isFieldAt, numberAt}
+use Rattle.fields.specs.Field.{numberAt}
+use Rattle.fields.specs.Line.{isLineAt}
 use Rattle.model.specs.Module.{Module, noSender}
 use Rattle.model.specs.ModuleFile.{modLine, modField, modProcessors, modIndex, moduleOf, modSlot}
 use Rattle.model.proofs.Accepted.{SlotRight, slot-right, at-pass}
 use Rattle.instruction.specs.Instruction.{operandNamed, sendNamed, instructionOf}
 use Rattle.instruction.specs.declared.Operand.{Operand}
-use Rattle.file_lines.proofs.Fields.{field-of-line}
 use Rattle.file_mod_table.specs.Line.{LinesLaid, LineOf}
 
 pub line-of : (l : List ℕ) (p c q i : ℕ) → LinesLaid l p c → q < p → i < c → LineOf l c q i
@@ -32,16 +32,16 @@ module _ (l : List ℕ) (c q i : ℕ) (line : LineOf l c q i) where
   pub slot-laid : SlotRight (line .laid .network) l q i
   slot-laid = laid-slot l (modProcessors l) c q i (line .laid) (line .processor) (line .slot)
 
-  -- the line stands at a place
-  module _ (place : ℕ) (here : place ≡ 85 * (1 + q * c + i)) (column : ℕ) where
-    at-line : place + 6 * column ≡ modLine (modIndex l q i) + 6 * column
-    at-line = ap (λ (x : ℕ). x + 6 * column) (here ∙ ap (λ (n : ℕ). 85 * (1 + q * n + i)) (line .laid .sized .slots))
+  -- the line stands at an offset
+  module _ (at : ℕ) (here : at ≡ 85 * (1 + q * c + i)) where
+    at-line : at ≡ modLine (modIndex l q i)
+    at-line = here ∙ ap (λ (n : ℕ). 85 * (1 + q * n + i)) (line .laid .sized .slots)
 
-    pub field-laid : column < 14 → isFieldAt l (place + 6 * column) ≡ true
-    field-laid low = field-of-line l (modLine (modIndex l q i)) 14 (slot-laid .line) column (place + 6 * column) low at-line
+    pub line-laid : isLineAt l at 14 ≡ true
+    line-laid = subst (λ (x : ℕ). isLineAt l x 14 ≡ true) (sym at-line) (slot-laid .line)
 
-    pub field-read : numberAt l (place + 6 * column) ≡ modField l (modIndex l q i) column
-    field-read = ap (λ (x : ℕ). numberAt l x) at-line
+    pub field-read : (column : ℕ) → numberAt l (at + 6 * column) ≡ modField l (modIndex l q i) column
+    field-read column = ap (λ (x : ℕ). numberAt l (x + 6 * column)) at-line
 
   pub signal-most : moduleOf l .signal q i ≤ 4096
   unfolding moduleOf

@@ -5,20 +5,31 @@ use file_mod_lines::Shape;
 use instruction::Instruction;
 use instruction::Operand;
 ghost use mathlib.Core.Path.{_≡_};
+ghost use mathlib.Core.Bool.{true};
 ghost use Prim.Native.Nat.{_+_, _*_, _<_, _≤_};
+ghost use Rattle.fields.specs.Field.{numberAt};
+ghost use Rattle.fields.specs.Line.{isLineAt};
 ghost use Rattle.model.specs.ModuleFile.{modIndex, modField, moduleOf};
 ghost use Rattle.instruction.specs.Instruction.{instructionOf};
 ghost use Rattle.file_mod_table.specs.Line.{LinesLaid, LineOf};
 ghost use Rattle.file_mod_table.specs.Mirror.{pairOf};
 
-// The number in a column of the line at a place: every reader of MOD's lines comes here.
+// The number in a column of the line at an offset: every reader of MOD's lines comes here.
+fn number_in(modfile: &[u8], line: usize, column: usize) -> u16
+    requires { ⌜ isLineAt (now modfile) line 14 ≡ true ⌝ }
+    requires { ⌜ (line ≤ 348160) × (column < 14) ⌝ }
+    ensures { λ r. ⌜ r ≡ numberAt (now (modfile .entry)) (line + 6 * column) ⌝ }
+{
+    fields::number_at(modfile, line + 6 * column)
+}
+
+// The number in a column of the line at a place.
 pub fn column_at(modfile: &[u8], shape: Shape, place: Place, column: usize) -> u16
     requires { ⌜ LineOf (now modfile) (shape .slots) (place .processor) (place .slot .0) ⌝ }
     requires { ⌜ column < 14 ⌝ }
     ensures { λ r. ⌜ r ≡ modField (now (modfile .entry)) (modIndex (now (modfile .entry)) (place .processor) (place .slot .0)) column ⌝ }
 {
-    let line = file_mod_lines::line_at(place, shape);
-    fields::number_at(modfile, line + 6 * column)
+    number_in(modfile, file_mod_lines::line_at(place, shape), column)
 }
 
 // The signal placed there, 0 in an empty slot.
@@ -29,13 +40,13 @@ pub fn signal_at(modfile: &[u8], shape: Shape, place: Place) -> u16
     column_at(modfile, shape, place, 2)
 }
 
-// The signal of line k after the first, for use as an index.
+// The signal of line k after the first, for use as an index. It stands at a known offset, so that no place is divided out of k.
 pub fn signal_of(modfile: &[u8], shape: Shape, k: usize) -> usize
     requires { ⌜ LinesLaid (now modfile) (shape .processors) (shape .slots) ⌝ }
     requires { ⌜ (k < shape .processors * shape .slots) × (k < 4096) ⌝ }
     ensures { λ r. ⌜ (r ≡ modField (now (modfile .entry)) (k + 1) 2) × (r ≤ 4096) ⌝ }
 {
-    signal_at(modfile, shape, file_mod_lines::place_of(k, shape)) as usize
+    number_in(modfile, 85 * (k + 1), 2) as usize
 }
 
 // The pair that is sent: its part, 9 where nothing is sent.
