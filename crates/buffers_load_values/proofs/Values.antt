@@ -16,7 +16,6 @@ use Rattle.logic.proofs.Tests.{and-true}
 use Rattle.model.specs.Refusal.{pass}
 use Rattle.model.specs.Network.{isSignal}
 use Rattle.model.specs.Netlist.{network, netSize}
-use Rattle.model.specs.Value.{start}
 use Rattle.model.specs.Stimulus.{stimTime, stimSignal, stimValue, stimCheck, stimCount, lastGiven, held}
 use Rattle.model.specs.Checked.{Checked}
 use Rattle.model.proofs.Value.{start-given}

@@ -176,17 +176,15 @@ fn check_lines(modfile: &[u8], signals: u16, shape: Shape) -> ModAnswer
     let mut k: usize = 0;
     'lines: while k < lines {
         let line = 85 * (k + 1);
-        let mut at = line;
         let mut column: usize = 0;
         while column < 14 {
-            let Field::Number(_, next) = fields::read_field(modfile, at) else {
+            let Field::Number(_, _) = fields::read_field(modfile, line + 6 * column) else {
                 answer = ModAnswer::Misformed((k + 2) as u16);
                 break 'lines;
             };
-            at = next;
             column += 1;
         }
-        if !fields::ends_line(modfile, at) {
+        if !fields::ends_line(modfile, line + 84) {
             answer = ModAnswer::Misformed((k + 2) as u16);
             break 'lines;
         }

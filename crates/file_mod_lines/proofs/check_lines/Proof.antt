@@ -19,11 +19,11 @@ use Rattle.file_mod_lines.proofs.check_lines.Statement.{statement}
 use Rattle.file_mod_lines.proofs.check_lines.Tie as tie
 
 abbrev Inv-loop : tie.InvT-loop
-Inv-loop modfile signals shape lines answer₀ k line at₀ column₀ answer at column =
-    (answer ≡ answer₀) × FieldsRight modfile line 14 column at
+Inv-loop modfile signals shape lines answer₀ k line column₀ answer column =
+    (answer ≡ answer₀) × FieldsRight modfile line 14 column (line + 6 * column)
 
 abbrev μ-loop : tie.MeasureT-loop
-μ-loop modfile signals shape lines answer₀ k line at₀ column₀ answer at column = 14 - column
+μ-loop modfile signals shape lines answer₀ k line column₀ answer column = 14 - column
 
 abbrev Inv-lines : tie.InvT-lines
 Inv-lines modfile signals shape lines answer₀ k₀ answer k =
@@ -37,13 +37,24 @@ unfolding firstBelow
 lines-holds c = (refl, omega arith, λ n e. refl)
 
 loop-holds : tie.Need-loop-holds Inv-loop μ-loop Inv-lines μ-lines
-loop-holds c = (refl, fields-begin refl)
+loop-holds c = (refl, fields-begin (omega arith))
 
 loop-again : tie.Need-loop-again Inv-loop μ-loop Inv-lines μ-lines
 loop-again c =
-    let read = c .before .before .before in
+    let read = c .before .before in
     let fields = read .before .before .loop .inv in
-    (fields .0, fields-go-on (fields .1) (read .before .loop-test .taken) (sym (read .read-field .ensures) ∙ c .before .next .given .1))
+    let more = fields-go-on (fields .1) (read .before .loop-test .taken) (sym (read .read-field .ensures) ∙ c .enum-told .given .1) in
+    (fields .0, record { few = more .few; here = refl; right = more .right })
+
+-- behind the last field stands the line's end
+all-read : (c : tie.After-ends-line Inv-loop μ-loop Inv-lines μ-lines)
+    → let fields = c .before .before in
+    let line = fields .before .before in
+    let start = 85 * (line .lines .k + 1) in
+    FieldsRight (line .before .before .before .args .modfile .now) start 14 (fields .loop .column) (start + 84)
+all-read c =
+    let read = c .before .before .loop .inv .1 in
+    record { few = read .few; here = omega (arith, read .few, c .before .loop-test .left); right = read .right }
 
 -- the line is right where all its fields are and byte 10 ends it
 form : (c : tie.Else1 Inv-loop μ-loop Inv-lines μ-lines)
@@ -51,7 +62,7 @@ form : (c : tie.Else1 Inv-loop μ-loop Inv-lines μ-lines)
     isLineAt (line .before .before .before .args .modfile .now) (85 * (line .lines .k + 1)) 14 ≡ true
 form c =
     let ended = c .before in
-    fields-end (ended .before .before .loop .inv .1) (ended .before .loop-test .left) (ended .ends-line .ensures) ∙ not-false _ (c .if1 .left)
+    fields-end (all-read ended) (ended .before .loop-test .left) (ended .ends-line .ensures) ∙ not-false _ (c .if1 .left)
 
 line-laid-requires : tie.Need-line-laid-requires Inv-loop μ-loop Inv-lines μ-lines
 line-laid-requires c κs = form (c .before)
@@ -99,7 +110,7 @@ unfolding eachLine
 returns-2 c n e =
     let read = c .before .before in
     let line = read .before .before .before .before in
-    let wrong = fields-stop (read .before .before .loop .inv .1) (read .before .loop-test .taken) (sym (read .read-field .ensures) ∙ c .enum-told .given .1) in
+    let wrong = fields-stop (read .before .before .loop .inv .1) (read .before .loop-test .taken) (sym (read .read-field .ensures) ∙ c .enum-told2 .given .1) in
     lines-stop _ _ (line .lines .inv .2 n e) _ (omega (arith, total line)) refl (misformed _ _ n wrong)
 
 -- another byte than 10
@@ -108,7 +119,7 @@ unfolding eachLine
 returns-3 c n e =
     let ended = c .before in
     let line = ended .before .before .before .before in
-    let wrong = fields-end (ended .before .before .loop .inv .1) (ended .before .loop-test .left) (ended .ends-line .ensures) ∙ not-true _ (c .if1 .taken) in
+    let wrong = fields-end (all-read ended) (ended .before .loop-test .left) (ended .ends-line .ensures) ∙ not-true _ (c .if1 .taken) in
     lines-stop _ _ (line .lines .inv .2 n e) _ (omega (arith, total line)) refl (misformed _ _ n wrong)
 
 -- a wrong layout
@@ -135,6 +146,8 @@ check-lines-spec =
     (λ c. search needs)
     (λ c. search needs)
     loop-holds
+    (λ c. search needs)
+    (λ c. search needs)
     (λ c κs. search needs)
     (λ c. search needs)
     (λ c. search needs)
@@ -143,6 +156,7 @@ check-lines-spec =
     (λ c. search needs)
     (λ c. search needs)
     loop-again
+    (λ c. search needs)
     (λ c κs. search needs)
     (λ c. search needs)
     (λ c. search needs)

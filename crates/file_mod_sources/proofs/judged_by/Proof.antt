@@ -2,7 +2,6 @@
 use mathlib.Core.Path.{sym, _∙_, ap}
 use Rattle.file_mod_sources.specs.Judged.{judged}
 use Rattle.file_mod_sources.proofs.Judged.{is-right, is-wrong}
-use borrow.Author.Needs.{needs}
 use Rattle.file_mod_sources.proofs.judged_by.Statement.{statement}
 use Rattle.file_mod_sources.proofs.judged_by.Tie as tie
 
