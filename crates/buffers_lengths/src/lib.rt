@@ -1,6 +1,8 @@
-// 40 (01, Refusals): the lengths of the working buffers.
+// The working buffers as such: their lengths (01, Refusals, 40), and one value throughout.
 
 ghost use mathlib.Core.Path.{_≡_};
+ghost use lib.ListN.{length};
+ghost use Rattle.logic.specs.Listed.{listed};
 ghost use Rattle.model.specs.Session.{sameLengths};
 ghost use Rattle.buffers_lengths.specs.Lengths.{fixed, lengthsLent};
 use buffers_memory::MEMORY_BYTES;
@@ -18,4 +20,15 @@ pub fn lengths_right(panel: &[u8], program: &[u8], memory: &[u8]) -> bool
         return false;
     }
     memory.len() == MEMORY_BYTES
+}
+
+// A buffer that holds one value throughout.
+pub fn fill(bytes: &mut [u8], value: u8)
+    ensures { λ _. ⌜ now (bytes .exit) ≡ listed (length (now (bytes .entry))) (λ a. value) ⌝ }
+{
+    let mut a: usize = 0;
+    while a < bytes.len() {
+        bytes[a] = value;
+        a += 1;
+    }
 }

@@ -2,7 +2,6 @@
 
 ghost use mathlib.Core.Path.{_≡_};
 ghost use lib.ListN.{length};
-ghost use Rattle.logic.specs.Listed.{listed};
 ghost use Rattle.model.specs.Refusal.{pass};
 ghost use Rattle.model.specs.Files.{filesOf};
 ghost use Rattle.model.specs.Netlist.{network};
@@ -13,17 +12,6 @@ ghost use Rattle.buffers_memory.specs.Memory.{memoryLength};
 ghost use Rattle.buffers_tables.specs.Panel.{panelLength};
 ghost use Rattle.buffers_tables.specs.Program.{programLength};
 ghost use Rattle.buffers_load_files.specs.Loaded.{panelOf, programOf, openingBytes};
-
-// A buffer that holds one value throughout.
-pub fn fill(bytes: &mut [u8], value: u8)
-    ensures { λ _. ⌜ now (bytes .exit) ≡ listed (length (now (bytes .entry))) (λ a. value) ⌝ }
-{
-    let mut a: usize = 0;
-    while a < bytes.len() {
-        bytes[a] = value;
-        a += 1;
-    }
-}
 
 // The three buffers of accepted files.
 pub fn load(

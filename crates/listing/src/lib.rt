@@ -46,7 +46,7 @@ pub fn open(
     ensures { λ r. ⌜ Stands (filesOf (now (net .entry)) (now (modfile .entry)) (now (stim .entry))) 0 r (now (stim .entry)) (now (panel .exit)) (now (program .exit)) (now (memory .exit)) (now (shown .exit)) ⌝ }
 {
     buffers_load::load(net, modfile, stim, panel, program, memory);
-    buffers_load::fill(shown, 4);
+    buffers_lengths::fill(shown, 4);
     let session = session_state::decode(panel);
     let cursor = listing_cycle::first_later(stim);
     let end = listing_cycle::end_time(stim, lines);

@@ -16,9 +16,9 @@ fn clear_all(panel: &mut [u8], program: &mut [u8], memory: &mut [u8])
     ensures { λ _. ⌜ now (program .exit) ≡ cleared (length (now (program .entry))) ⌝ }
     ensures { λ _. ⌜ now (memory .exit) ≡ cleared (length (now (memory .entry))) ⌝ }
 {
-    buffers_load::fill(panel, 0);
-    buffers_load::fill(program, 0);
-    buffers_load::fill(memory, 0);
+    buffers_lengths::fill(panel, 0);
+    buffers_lengths::fill(program, 0);
+    buffers_lengths::fill(memory, 0);
 }
 
 // "A refused opening leaves the working buffers all zero, as far as they were lent to it."

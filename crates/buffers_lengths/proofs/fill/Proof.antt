@@ -5,8 +5,8 @@ use lib.ListN.{length}
 use Rattle.logic.proofs.Filling.{Filled, fill-starts, fill-more, fill-ends}
 use native.Mathlib.Omega.{arith}
 use borrow.Author.Needs.{needs}
-use Rattle.buffers_load.proofs.fill.Statement.{statement}
-use Rattle.buffers_load.proofs.fill.Tie as tie
+use Rattle.buffers_lengths.proofs.fill.Statement.{statement}
+use Rattle.buffers_lengths.proofs.fill.Tie as tie
 
 abbrev Inv-loop : tie.InvT-loop
 Inv-loop bytes₀ value a₀ bytes a = Filled (λ _. value) (length bytes₀) a bytes
