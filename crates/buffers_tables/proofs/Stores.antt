@@ -76,13 +76,6 @@ module _ (number : ℕ) (panel : List ℕ) where
   pub finished-else : (x : ℕ) → (x ≡ finishedPlace → ⊥) → (x ≡ finishedPlace + 1 → ⊥) → getD (withFinished number panel) x 0 ≡ getD panel x 0
   finished-else x low high = stored-else number finishedPlace panel x low high
 
-  pub finished-watched : watchedIn (withFinished number panel) ≡ watchedIn panel
-  finished-watched =
-      rw (finished-else watchedPlace (λ q. omega arith) (λ q. omega arith), finished-else (watchedPlace + 1) (λ q. omega arith) (λ q. omega arith))
-
-  pub finished-mask : maskIn (withFinished number panel) ≡ maskIn panel
-  finished-mask = finished-else maskPlace (λ q. omega arith) (λ q. omega arith)
-
   pub finished-hand : (s : ℕ) → 1 ≤ s → handIn (withFinished number panel) s ≡ handIn panel s
   finished-hand s low = finished-else (signalByte s handColumn) (λ q. omega arith) (λ q. omega arith)
 
@@ -145,22 +138,6 @@ module _ (s value : ℕ) (panel : List ℕ) where
   pub hand-other : (r : ℕ) → (r ≡ s → ⊥) → handIn (withHand s value panel) r ≡ handIn panel r
   hand-other r d = hand-else (signalByte r handColumn) (λ q. d (omega arith))
 
-  module _ (low : 1 ≤ s) where
-    pub hand-finished : finishedIn (withHand s value panel) ≡ finishedIn panel
-    hand-finished = rw (hand-else finishedPlace (λ q. omega arith), hand-else (finishedPlace + 1) (λ q. omega arith))
-
-    pub hand-watched : watchedIn (withHand s value panel) ≡ watchedIn panel
-    hand-watched = rw (hand-else watchedPlace (λ q. omega arith), hand-else (watchedPlace + 1) (λ q. omega arith))
-
-    pub hand-mask : maskIn (withHand s value panel) ≡ maskIn panel
-    hand-mask = hand-else maskPlace (λ q. omega arith)
-
-  pub hand-fixed : 1 ≤ s → SameFixed (withHand s value panel) panel
-  hand-fixed low =
-      fixed-bytes (withHand s value panel) panel
-      (λ x l. hand-else x (λ q. omega arith))
-      (λ x l h d. hand-else x (λ q. d (omega arith)))
-
 -- what stands there already
 module _ (panel : List ℕ) where
   pub finished-own : getD panel finishedPlace 0 < 256 → withFinished (finishedIn panel) panel ≡ panel
@@ -169,6 +146,3 @@ module _ (panel : List ℕ) where
   pub watch-own : getD panel watchedPlace 0 < 256 → withWatch (watchedIn panel) (maskIn panel) panel ≡ panel
   watch-own low =
       ap (λ (x : List ℕ). set x maskPlace (maskIn panel)) (word-own panel watchedPlace low) ∙ set-getD panel maskPlace 0
-
-  pub hand-own : (s : ℕ) → withHand s (handIn panel s) panel ≡ panel
-  hand-own s = set-getD panel (signalByte s handColumn) 0

@@ -26,7 +26,7 @@ use Rattle.buffers_tables.specs.Panel.{signalsIn, processorsIn, slotsIn, kindIn
 use Rattle.buffers_tables.specs.Tables.{networkIn, moduleIn}
 use Rattle.buffers_tables.specs.Holding.{Holding}
 use Rattle.buffers_range.proofs.Ranged.{head-ranged, panel-in-range, ranged-memory}
-use Rattle.machine_run.specs.Running.{watchOf, cycleIn}
+use Rattle.machine_run.specs.Running.{cycleIn}
 use Rattle.session_state.specs.declared.Session.{Session}
 use Rattle.buffers_tables.specs.Stores.{withHands}
 use Rattle.session_state.specs.Commands.{signalIn, inputIn}
@@ -41,7 +41,7 @@ use Rattle.listing_cycle.specs.Feeding.{Stimulus, Passed, PanelInputs, InHand, 
 use Rattle.listing_cycle.specs.Cycling.{RightBuffers, Ready, OneMore}
 use Rattle.listing.specs.Pieces.{pieceAt}
 use Rattle.listing.specs.Buffers.{cyclesAfter, lineAt, handAt, panelAt, panelAfter, memoryAt, shownAt, shownAfter}
-use Rattle.listing.specs.Standing.{SessionAfter, Stands, Gives}
+use Rattle.listing.specs.Standing.{SessionAt, Stands, Gives}
 use Rattle.listing.proofs.Lines.{lines-passed, passed-line}
 use Rattle.listing_cycle.proofs.Feeding.{no-input, fed-fixed, fed-right}
 use Rattle.listing_cycle.proofs.Cycling.{cycle-right}
@@ -92,10 +92,6 @@ module _ (files : Files) (accepted : Accepted panelLimit files) (t : ℕ) (more 
       ap (λ (k : ℕ). shownWith k (valueHeld panel memory) (λ s. getD shown s 0)) size-is
       ∙ ap (λ (x : List ℕ). shownWith (networkOf files .size) (valueHeld panel memory) (λ s. getD x s 0)) shown-is
       ∙ shown-next files accepted t more (valueHeld panel memory) values-held
-
--- the session after t cycles
-abbrev SessionAt : ℕ → Session → Type 0
-SessionAt t s = (s .finished .0 ≡ t) × (watchOf (s .watch) ≡ record { signal = 1; mask = 0 })
 
 -- what a listing that stands gives to the functions that it calls
 module _ {files : Files} {k : ℕ} {l : Lister} {stim panel program memory shown : List ℕ} (s : Stands files k l stim panel program memory shown) where
@@ -162,7 +158,7 @@ module _ {files : Files} {k : ℕ} {l : Lister} {stim panel program memory shown
         count : p .lister .pieces ≡ suc k
         count = omega (arith, given, s .given)
 
-        session-left : SessionAfter files (suc k) (p .lister .session)
+        session-left : SessionAt (cyclesAfter files (suc k)) (p .lister .session)
         session-left = (session .0 ∙ sym cycles, session .1)
 
   -- a piece without a cycle

@@ -9,8 +9,8 @@ use Rattle.model.specs.Files.{Files}
 use Rattle.model.specs.Stimulus.{endTime}
 use Rattle.model.specs.Acceptance.{panelLimit, Accepted}
 use Rattle.buffers_load_files.specs.Loaded.{programOf}
-use Rattle.machine_run.specs.Running.{watchOf}
 use Rattle.session_state.specs.declared.Session.{Session}
+use Rattle.session_state.specs.Carried.{Carries}
 use Rattle.listing.specs.declared.Lister.{Lister}
 use Rattle.listing.specs.declared.Piece.{Piece}
 use Rattle.listing_cycle.specs.Changes.{pieceLength, shownLength}
@@ -18,9 +18,9 @@ use Rattle.listing_cycle.specs.Cycling.{RightBuffers}
 use Rattle.listing.specs.Pieces.{pieceAt}
 use Rattle.listing.specs.Buffers.{cyclesAfter, lineAfter, panelAfter, memoryAfter, shownAfter}
 
--- the session after k pieces: its cycles finished, and "watch signal 1, mask 0"
-abbrev pub SessionAfter : Files → ℕ → Session → Type 0
-SessionAfter files k s = (s .finished .0 ≡ cyclesAfter files k) × (watchOf (s .watch) ≡ record { signal = 1; mask = 0 })
+-- the session after t cycles, with "watch signal 1, mask 0"
+abbrev pub SessionAt : ℕ → Session → Type 0
+SessionAt t s = Carries t (record { signal = 1; mask = 0 }) s
 
 pub record Stands (files : Files) (k : ℕ) (l : Lister) (stim panel program memory shown : List ℕ) : Type 0 where
   pub accepted : Accepted panelLimit files
@@ -29,7 +29,7 @@ pub record Stands (files : Files) (k : ℕ) (l : Lister) (stim panel program mem
   pub given : l .pieces ≡ k
   pub end : l .end .0 ≡ endTime (files .STIM)
   pub line-is : l .cursor .line ≡ lineAfter files k
-  pub session-is : SessionAfter files k (l .session)
+  pub session-is : SessionAt (cyclesAfter files k) (l .session)
   pub panel-is : panel ≡ panelAfter files k
   pub program-is : program ≡ programOf files
   pub memory-is : memory ≡ memoryAfter files k
@@ -53,7 +53,7 @@ pub record Gives (files : Files) (k : ℕ) (lent : List ℕ) (p : Piece) (out st
   pub given : p .lister .pieces ≡ suc k
   pub end : p .lister .end .0 ≡ endTime (files .STIM)
   pub line-is : p .lister .cursor .line ≡ lineAfter files (suc k)
-  pub session-is : SessionAfter files (suc k) (p .lister .session)
+  pub session-is : SessionAt (cyclesAfter files (suc k)) (p .lister .session)
   pub panel-is : panel ≡ panelAfter files (suc k)
   pub memory-is : memory ≡ memoryAfter files (suc k)
   pub shown-is : shown ≡ shownAfter files (suc k)

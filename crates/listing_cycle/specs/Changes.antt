@@ -9,7 +9,7 @@ use Rattle.logic.specs.Listed.{listed}
 use Rattle.writing.specs.Text.{lineText}
 use Rattle.model.specs.Listing.{joined}
 use Rattle.buffers_memory.specs.Memory.{memoryOf}
-use Rattle.buffers_tables.specs.Panel.{processorIn, slotIn}
+use Rattle.machine_run.specs.Running.{valueIn}
 
 -- the longest piece: a line of each signal
 abbrev pub pieceLength : ℕ
@@ -24,7 +24,7 @@ notShown = 4
 
 -- the value at the place of signal s
 abbrev pub valueHeld : List ℕ → List ℕ → ℕ → ℕ
-valueHeld panel memory s = memoryOf memory .earlierLocal (processorIn panel s) (slotIn panel s)
+valueHeld panel memory s = valueIn panel (memoryOf memory) s
 
 -- the line of signal s at a time
 unfoldable pub changeLine : ℕ → ℕ → ℕ → ℕ → List ℕ

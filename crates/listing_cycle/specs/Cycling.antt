@@ -9,6 +9,7 @@ use Rattle.buffers_range.specs.Ranges.{ranged}
 use Rattle.buffers_lengths.specs.Lengths.{Sizes}
 use Rattle.machine_run.specs.Running.{watchOf}
 use Rattle.session_state.specs.declared.Session.{Session}
+use Rattle.session_state.specs.Carried.{Carries}
 
 -- working buffers of their lengths and in range
 pub record RightBuffers (panel program memory : List ℕ) : Type 0 where
@@ -25,4 +26,4 @@ pub record Ready (s : Session) (panel program memory : List ℕ) : Type 0 where
 
 -- one cycle more is finished, and the watch is the same
 abbrev pub OneMore : Session → Session → Type 0
-OneMore before after = (after .finished .0 ≡ before .finished .0 + 1) × (watchOf (after .watch) ≡ watchOf (before .watch))
+OneMore before after = Carries (before .finished .0 + 1) (watchOf (before .watch)) after

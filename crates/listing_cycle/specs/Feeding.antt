@@ -10,6 +10,7 @@ use Rattle.model.specs.Stimulus.{stimTime, stimCheck, stimCount, lastGiven}
 use Rattle.buffers_tables.specs.Panel.{handIn}
 use Rattle.machine_run.specs.Running.{watchOf}
 use Rattle.session_state.specs.declared.Session.{Session}
+use Rattle.session_state.specs.Carried.{Carries}
 use Rattle.buffers_tables.specs.Stores.{withHands}
 use Rattle.session_state.specs.Commands.{inputIn}
 
@@ -46,4 +47,4 @@ pub record Fed (stim before : List ℕ) (t line : ℕ) (after : List ℕ) (next 
 
 -- a session with the same cycles finished and the same watch
 abbrev pub SameNumbers : Session → Session → Type 0
-SameNumbers before after = (after .finished .0 ≡ before .finished .0) × (watchOf (after .watch) ≡ watchOf (before .watch))
+SameNumbers before after = Carries (before .finished .0) (watchOf (before .watch)) after

@@ -1,14 +1,9 @@
 -- Laws of `listed`: a list is what its elements are, and a store changes one of them.
 use Prim.Native.Nat.{ℕ, zero, suc, _<_}
 use mathlib.Core.Path.{_≡_, refl, _∙_, ap}
-use mathlib.Core.Bool.{Bool, true, false}
 use mathlib.Core.List.{List, [], _∷_}
 use native.Mathlib.Omega.{arith}
-use lib.Dec.{eqb}
-use lib.ListN.{length, getD, set}
-use lib.Seq.{getD-set-same, getD-set-other}
-use borrow.Author.Tests.{eqb-true, eqb-false}
-use Rattle.logic.specs.Choice.{if_then_else_}
+use lib.ListN.{length, getD}
 use Rattle.logic.specs.Listed.{listed}
 
 pub listed-length : (n : ℕ) (f : ℕ → ℕ) → length (listed n f) ≡ n
@@ -32,11 +27,3 @@ is-listed (x ∷ l) (suc n) f e h =
     let rest : l ≡ listed n (λ k. f (suc k)) = is-listed l n (λ k. f (suc k)) (omega arith) (λ i b. h (suc i) (omega arith)) in
     let head : x ≡ f 0 = h 0 (omega arith) in
     ap (λ (y : ℕ). y ∷ l) head ∙ ap (λ (r : List ℕ). f 0 ∷ r) rest
-
--- the element after a store
-pub set-at : (l : List ℕ) (i v j : ℕ) → i < length l → getD (set l i v) j 0 ≡ (if eqb j i then v else getD l j 0)
-set-at l i v j h = go (eqb j i) refl
-  where
-    go : (b : Bool) → eqb j i ≡ b → getD (set l i v) j 0 ≡ (if b then v else getD l j 0)
-    go true e = ap (λ (k : ℕ). getD (set l i v) k 0) (eqb-true j i e) ∙ getD-set-same l i v 0 h
-    go false e = getD-set-other l i j v 0 (eqb-false j i e)
