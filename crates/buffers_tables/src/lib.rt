@@ -6,7 +6,7 @@ ghost use lib.ListN.{length, getD, set};
 ghost use Rattle.instruction.specs.Operand.{operandOf};
 ghost use Rattle.buffers_tables.specs.Panel.{panelLength, finishedPlace, watchedPlace, maskPlace, signalsIn, processorsIn, slotsIn, finishedIn, watchedIn, maskIn, kindIn, codesIn, handIn, processorIn, slotIn};
 ghost use Rattle.buffers_tables.specs.Stores.{withFinished, withWatch, withHand};
-ghost use Rattle.buffers_tables.specs.Program.{programLength, lineStride, lineIn, instructionIn};
+ghost use Rattle.buffers_tables.specs.Program.{programLength, lineStride, lineIn, signalAt, instructionIn};
 use clock::Slot;
 use gates::Gate;
 use instruction::Instruction;
@@ -200,6 +200,14 @@ pub fn line_offset(processor: usize, slot: Slot) -> usize
 {
     let i = slot.0;
     LINE_STRIDE * (SLOT_LINES * (i as usize) + processor)
+}
+
+// The signal of the line of a processor and a slot: 0 where the slot is empty.
+pub fn signal_in(program: &[u8], processor: usize, slot: Slot) -> u16
+    requires { ⌜ (length (now program) ≡ programLength) × (processor < 16) × (slot .0 < 256) ⌝ }
+    ensures { λ r. ⌜ r ≡ signalAt (now (program .entry)) processor (slot .0) ⌝ }
+{
+    words::word_at(program, line_offset(processor, slot) + SIGNAL)
 }
 
 // What the pair at a place names.

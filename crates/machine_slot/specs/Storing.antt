@@ -19,7 +19,7 @@ use Rattle.buffers_tables.specs.Panel.{kindIn, codesIn, handIn}
 unfoldable pub evaluated : Network → Module → (ℕ → ℕ) → Memory → ℕ → ℕ → ℕ
 evaluated n m row w p i = if eqb (m .signal p i) 0 then 0 else result n m row w p i
 
--- the same by the line decoded: its gate's result
+-- the same, from the decoded instruction: its gate's result
 unfoldable pub gateOn : List ℕ → Memory → ℕ → Instruction → ℕ
 gateOn panel w p line =
     gate (codesIn panel (line .signal))

@@ -13,6 +13,7 @@ ghost use Rattle.model.specs.Module.{localPresent, switchPresent, noSender};
 ghost use Rattle.model.specs.Machine.{sent as sentBy, slot as slotDone};
 ghost use Rattle.buffers_memory.specs.Memory.{memoryLength, memoryOf, place, withMemory, written, here, MemoryBytes};
 ghost use Rattle.buffers_tables.specs.Panel.{panelLength, processorsIn, slotsIn, handIn};
+ghost use Rattle.buffers_tables.specs.Program.{programLength, signalAt, instructionIn};
 ghost use Rattle.buffers_tables.specs.Tables.{networkIn, moduleIn, Tables};
 ghost use Rattle.machine_slot.specs.Storing.{gateOn, evaluatedOn, evaluated, FirstAre, storing, storedIf, passed};
 
@@ -36,23 +37,31 @@ fn gate_on(panel: &[u8], memory: &[u8], processor: usize, line: Instruction) -> 
     )
 }
 
-// "Its gate's result, or its input's value for cycle t", which is the value in hand. An empty slot is not evaluated.
-fn evaluate(panel: &[u8], memory: &[u8], processor: usize, line: Instruction) -> u8
-    requires { ⌜ (length (now panel) ≡ panelLength) × (processor < 16) × (line .signal ≤ 4096) ⌝ }
+// "Its gate's result, or its input's value for cycle t", which is the value in hand. An empty slot is not evaluated. The line is
+// decoded behind the tests: what is decoded before them has to be kept over them.
+fn evaluate(panel: &[u8], program: &[u8], memory: &[u8], processor: usize, slot: Slot) -> u8
+    requires { ⌜ (length (now panel) ≡ panelLength) × (length (now program) ≡ programLength) × (processor < 16) × (slot .0 < 256) ⌝ }
+    requires { ⌜ signalAt (now program) processor (slot .0) ≤ 4096 ⌝ }
     requires { ⌜ MemoryBytes (now memory) ⌝ }
-    ensures { λ r. ⌜ r ≡ evaluatedOn (now (panel .entry)) (memoryOf (now (memory .entry))) processor line ⌝ }
+    ensures { λ r. ⌜ r ≡ evaluatedOn (now (panel .entry)) (memoryOf (now (memory .entry))) processor (instructionIn (now (program .entry)) processor (slot .0)) ⌝ }
 {
-    let signal = line.signal as usize;
+    let signal = buffers_tables::signal_in(program, processor, slot) as usize;
     if signal == 0 {
         return 0;
     }
     if buffers_tables::kind(panel, signal) == 1 {
         return buffers_tables::hand(panel, signal);
     }
-    gate_on(panel, memory, processor, line)
+    gate_on(
+        panel,
+        memory,
+        processor,
+        buffers_tables::instruction_in(program, processor, slot),
+    )
 }
 
-// "every processor fetches first": what each stores locally and what it sends, from its line decoded once.
+// "every processor fetches first": what each stores locally and what it sends. What it sends is fetched before its gate is evaluated,
+// and so is not kept meanwhile.
 fn fetch_all(
     panel: &[u8],
     program: &[u8],
@@ -71,9 +80,9 @@ fn fetch_all(
     let mut p: usize = 0;
     while p < processors {
         let line = buffers_tables::instruction_in(program, p, slot);
-        results[p] = evaluate(panel, memory, p, line);
         let send = line.send;
         sent[p] = buffers_memory::fetch(memory, p, send);
+        results[p] = evaluate(panel, program, memory, p, slot);
         p += 1;
     }
 }

@@ -9,28 +9,44 @@ use Rattle.machine_slot.proofs.evaluate.Tie as tie
 
 returns : tie.Need-returns
 unfolding evaluatedOn
-returns c = rw (eq-eqb _ 0 (c .if1 .taken))
+returns c = rw (← (c .before .signal-in .ensures), eq-eqb _ 0 (c .if1 .taken))
 
 returns-2 : tie.Need-returns-2
 unfolding evaluatedOn
 returns-2 c =
     let kind = c .before .before .kind .ensures in
-    rw (ne-eqb _ 0 (c .before .before .before .if1 .left), eq-eqb _ input (sym kind ∙ c .before .if2 .taken)) (c .hand .ensures)
+    rw (
+      ← (c .before .before .before .before .signal-in .ensures),
+      ne-eqb _ 0 (c .before .before .before .if1 .left),
+      eq-eqb _ input (sym kind ∙ c .before .if2 .taken),
+    ) (c .hand .ensures)
+
+gate-on-requires : tie.Need-gate-on-requires
+gate-on-requires c κs =
+    let s = c .before .before .before .before .before .before .before .before in
+    ((s .pre .0 .0, s .pre .0 .2, rw (c .instruction-in .ensures) (s .pre .1 .0)), s .pre .1 .1)
 
 returns-3 : tie.Need-returns-3
 unfolding evaluatedOn
 returns-3 c =
-    let kind = c .before .before .kind .ensures in
-    rw (ne-eqb _ 0 (c .before .before .before .if1 .left), ne-eqb _ input (λ e. c .before .if2 .left (kind ∙ e))) (c .gate-on .ensures)
+    let decoded = c .before in
+    let signal = decoded .before .before .before .before .signal-in .ensures in
+    let kind = rw signal at (decoded .before .before .kind .ensures) in
+    rw (
+      ne-eqb _ 0 (λ e. decoded .before .before .before .if1 .left (signal ∙ e)),
+      ne-eqb _ input (λ e. decoded .before .if2 .left (kind ∙ e)),
+    ) (rw (decoded .instruction-in .ensures) at (c .gate-on .ensures))
 
 pub evaluate-spec : {M : Type 1} → statement M
 evaluate-spec =
     tie.close
     (tie.spec
+    (λ c κs. search needs)
     (λ c. search needs)
     returns
     (λ c κs. search needs)
     (λ c κs. search needs)
     returns-2
     (λ c κs. search needs)
+    gate-on-requires
     returns-3)

@@ -1,6 +1,6 @@
 -- The invariant: the first p elements are the results, and what is sent.
 use Prim.Native.Nat.{_<_, _≤_, _-_}
-use mathlib.Core.Path.{_≡_}
+use mathlib.Core.Path.{_≡_, _∙_}
 use lib.ListN.{length, length-set}
 use Rattle.model.specs.Machine.{sent as sentBy}
 use Rattle.buffers_memory.specs.Memory.{memoryOf}
@@ -30,10 +30,14 @@ loop-holds c =
 
 evaluate-requires : tie.Need-evaluate-requires Inv-loop μ-loop
 evaluate-requires c κs =
-    let s = c .before .before .before .before .before .before .before .before in
-    let inside : c .before .before .loop .p < processorsIn (s .args .panel .now) = omega (arith, s .pre .1 .1 .0, c .before .loop-test .taken) in
-    let low = line-signal _ _ (s .pre .0) (c .before .before .loop .p) (s .args .slot .0) inside (s .pre .1 .1 .1) in
-    ((s .pre .0 .panel-size, omega (arith, s .pre .0 .processors-high, inside), rw (c .instruction-in .ensures) low), s .pre .1 .0)
+    let turn = c .before .before in
+    let loop = turn .before .loop in
+    let s = turn .before .before .before .before .before .before .before in
+    let t = s .pre .0 in
+    let inside : loop .p < processorsIn (s .args .panel .now) = omega (arith, s .pre .1 .1 .0, turn .loop-test .taken) in (
+      (t .panel-size, t .program-size, omega (arith, t .processors-high, inside), omega (arith, t .slots-high, s .pre .1 .1 .1)),
+      (line-signal _ _ t (loop .p) (s .args .slot .0) inside (s .pre .1 .1 .1), s .pre .1 .0),
+    )
 
 loop-again : tie.Need-loop-again Inv-loop μ-loop
 loop-again c =
@@ -46,9 +50,9 @@ loop-again c =
       simp length-set (loop .inv .1),
       simp length-set (loop .inv .2),
       first-more _ (loop .results) (loop .p) _ (omega arith) (loop .inv .3)
-          (rw (line, evaluated-line (start .args .panel .now) (start .args .program .now) w (loop .p) (start .args .slot .0)) at (c .before .evaluate .ensures)),
+          (c .evaluate .ensures ∙ evaluated-line (start .args .panel .now) (start .args .program .now) w (loop .p) (start .args .slot .0)),
       first-more _ (loop .sent) (loop .p) _ (omega arith) (loop .inv .4)
-          (rw (line, sent-line (start .args .panel .now) (start .args .program .now) w (loop .p) (start .args .slot .0)) at (c .fetch .ensures)),
+          (rw (line, sent-line (start .args .panel .now) (start .args .program .now) w (loop .p) (start .args .slot .0)) at (c .before .fetch .ensures)),
     )
 
 returns : tie.Need-returns Inv-loop μ-loop
@@ -64,9 +68,9 @@ fetch-all-spec =
     μ-loop
     loop-holds
     (λ c κs. search needs)
-    evaluate-requires
-    (λ c. search needs)
     (λ c κs. search needs)
+    (λ c. search needs)
+    evaluate-requires
     (λ c. search needs)
     (λ c. search needs)
     (λ c. search needs)
