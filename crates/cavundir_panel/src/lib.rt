@@ -6,8 +6,11 @@ ghost use Rattle.model.specs.Acceptance.{panelLimit, fileCheck};
 ghost use Rattle.model.specs.Session.{set as setting, watch as watching, read as reading, run as running};
 ghost use Rattle.buffers_load_files.specs.Loaded.{panelOf, programOf, openingBytes};
 ghost use Rattle.session_answers.specs.Answers.{answerBits, checkBits};
+ghost use Rattle.session_answers.specs.Left.{leftAfter};
 ghost use Rattle.session_opening.specs.Opened.{openingCheckLent, leftBy};
 ghost use Rattle.session_calls.specs.Reply.{buffersOf, reply};
+ghost use Rattle.traces.specs.Turned.{turned, turnedBack};
+ghost use Rattle.traces.specs.Checks.{turnCheck, turnBackCheck};
 
 // Checks three files, and writes nothing.
 #[no_mangle]
@@ -86,4 +89,22 @@ pub extern "C" fn cavundir_run(
     ensures left { λ _. ⌜ reply (buffersOf (now (panel .entry)) (now (program .entry)) (now (memory .entry))) (running cycles) .buffers ≡ buffersOf (now (panel .exit)) (now (program .entry)) (now (memory .exit)) ⌝ }
 {
     session_calls::run(panel, program, memory, cycles)
+}
+
+// Turns the recorded values of one signal into a block.
+#[no_mangle]
+pub extern "C" fn cavundir_turn(values: &[u8], block: &mut [u8], count: u32) -> u64
+    ensures answer { λ r. ⌜ r ≡ checkBits (turnCheck (now (values .entry)) (now (block .entry)) count) ⌝ }
+    ensures block { λ _. ⌜ now (block .exit) ≡ leftAfter (turnCheck (now (values .entry)) (now (block .entry)) count) (turned (now (values .entry)) count) (now (block .entry)) ⌝ }
+{
+    traces::turn(values, block, count)
+}
+
+// Turns a block back into the values of one signal.
+#[no_mangle]
+pub extern "C" fn cavundir_turn_back(block: &[u8], values: &mut [u8], count: u32) -> u64
+    ensures answer { λ r. ⌜ r ≡ checkBits (turnBackCheck (now (block .entry)) (now (values .entry)) count) ⌝ }
+    ensures values { λ _. ⌜ now (values .exit) ≡ leftAfter (turnBackCheck (now (block .entry)) (now (values .entry)) count) (turnedBack (now (block .entry)) count) (now (values .entry)) ⌝ }
+{
+    traces::turn_back(block, values, count)
 }

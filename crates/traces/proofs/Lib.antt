@@ -1,0 +1,5 @@
+pub mod Bits
+pub mod Refusals
+pub mod Words
+pub mod Unused
+pub mod Calls

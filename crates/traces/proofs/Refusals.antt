@@ -1,0 +1,89 @@
+-- Laws of the refusals: each length, the count and each value decide as the code asks for them.
+use Prim.Native.Nat.{ℕ, _+_, _≤_, _<_}
+use mathlib.Core.Path.{_≡_, refl, sym, _∙_, subst}
+use mathlib.Core.Bool.{true}
+use mathlib.Core.List.{List}
+use native.Mathlib.Omega.{arith}
+use native.Mathlib.Decide.{ℕ-discrete}
+use lib.Dec.{leb}
+use lib.ListN.{length, getD}
+use borrow.Author.Tests.{eqb-true, eq-eqb, ne-eqb, le-leb, lt-leb, leb-true}
+use Rattle.logic.specs.Test.{_and_}
+use Rattle.logic.proofs.Tests.{and-left, and-right}
+use Rattle.model.specs.Refusal.{Check, pass, fail, first, unless, firstBelow}
+use Rattle.model.specs.Session.{sameLengths}
+use Rattle.model.proofs.Refusals.{first-left, first-right, unless-true, unless-pass, below-pass, below-all, below-first}
+use Rattle.traces.specs.Turned.{valuesLength, blockLength}
+use Rattle.traces.specs.Checks.{lent, fixed, countRight, sizesCheck, valuesCheck}
+
+module _ (values block : List ℕ) (count : ℕ) where
+  pub wrong-values : (length values ≡ valuesLength → ⊥) → sizesCheck values block count ≡ fail 40 0
+  unfolding sizesCheck sameLengths first unless _and_
+  wrong-values d = rw (ne-eqb (length values) valuesLength d)
+
+  -- what is known of buffers and count that are right
+  pub record Sizes : Type 0 where
+    pub values-size : length values ≡ valuesLength
+    pub block-size : length block ≡ blockLength
+    pub count-low : 1 ≤ count
+    pub count-high : count ≤ valuesLength
+
+  module _ (v : length values ≡ valuesLength) where
+    pub wrong-block : (length block ≡ blockLength → ⊥) → sizesCheck values block count ≡ fail 40 0
+    unfolding sizesCheck sameLengths first unless _and_
+    wrong-block d = rw (v, ne-eqb (length block) blockLength d)
+
+    module _ (b : length block ≡ blockLength) where
+      pub no-count : count ≡ 0 → sizesCheck values block count ≡ fail 52 0
+      unfolding sizesCheck sameLengths countRight first unless _and_
+      no-count z = rw (v, b, z)
+
+      pub high-count : valuesLength < count → sizesCheck values block count ≡ fail 52 0
+      unfolding sizesCheck sameLengths countRight first unless _and_
+      high-count h = rw (v, b, le-leb 1 count (omega arith), lt-leb count valuesLength h)
+
+      pub sizes-pass : (count ≡ 0 → ⊥) → count ≤ valuesLength → sizesCheck values block count ≡ pass
+      unfolding sizesCheck sameLengths countRight first unless _and_
+      sizes-pass some h = rw (v, b, le-leb 1 count (omega arith), le-leb count valuesLength h)
+
+  -- the check that passed tells it
+  pub sizes-right : sizesCheck values block count ≡ pass → Sizes
+  unfolding sizesCheck sameLengths countRight
+  sizes-right e =
+      let lengths = unless-true (sameLengths (lent values block) fixed) 40 0 (first-left _ _ e) in
+      let counted = unless-true (countRight count) 52 0 (first-right _ _ e) in
+      record {
+        values-size = eqb-true _ _ (and-left _ _ lengths);
+        block-size = eqb-true _ _ (and-left _ _ (and-right _ _ lengths));
+        count-low = leb-true 1 count (and-left _ _ counted);
+        count-high = leb-true count valuesLength (and-right _ _ counted);
+      }
+
+module _ (values : List ℕ) where
+  abbrev judged : ℕ → Check
+  judged c = unless (leb (getD values c 0) 3) 42 (getD values c 0)
+
+  pub values-none : valuesCheck values 0 ≡ pass
+  unfolding valuesCheck firstBelow
+  values-none = refl
+
+  -- one value more is legal
+  pub values-more : (c : ℕ) → valuesCheck values c ≡ pass → getD values c 0 ≤ 3 → valuesCheck values (c + 1) ≡ pass
+  unfolding valuesCheck
+  values-more c before legal = below-all (c + 1) judged (λ k low. at k low (ℕ-discrete k c))
+    where
+      at : (k : ℕ) → k < c + 1 → Dec (k ≡ c) → judged k ≡ pass
+      at k low (yes e) = subst (λ (m : ℕ). judged m ≡ pass) (sym e) (unless-pass _ 42 _ (le-leb (getD values c 0) 3 legal))
+      at k low (no d) = below-pass c judged before k (omega arith)
+
+  -- the first that is above 3
+  pub value-above : (count c : ℕ) → c < count → valuesCheck values c ≡ pass → 3 < getD values c 0 → valuesCheck values count ≡ fail 42 (getD values c 0)
+  unfolding valuesCheck unless
+  value-above count c low before above =
+      below-first count judged
+      (record { at = c; low = low; fails = rw (lt-leb (getD values c 0) 3 above); before = below-pass c judged before })
+
+  -- none within the count is above 3
+  pub values-legal : (count : ℕ) → valuesCheck values count ≡ pass → (c : ℕ) → c < count → getD values c 0 ≤ 3
+  unfolding valuesCheck
+  values-legal count e c low = leb-true (getD values c 0) 3 (unless-true _ 42 _ (below-pass count judged e c low))

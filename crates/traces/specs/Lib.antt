@@ -1,0 +1,4 @@
+pub mod Bits
+pub mod Turned
+pub mod Checks
+pub mod Answer
