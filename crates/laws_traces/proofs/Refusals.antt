@@ -1,0 +1,41 @@
+-- What the two calls may refuse by: 40, 52 and, when turning, 42. So an answer of 0 is a call that was done.
+use Prim.Native.Nat.{ℕ, _+_, _*_, _^_, _≤_}
+use mathlib.Core.Path.{_≡_, refl, sym, _∙_}
+use mathlib.Core.List.{List}
+use mathlib.Core.Logic.{⊎-elim}
+use native.Mathlib.Omega.{arith}
+use Rattle.model.specs.Refusal.{Check, pass, fail}
+use Rattle.model.specs.Session.{refused, done}
+use Rattle.model.proofs.Refusals.{first-fail, unless-false, below-fail}
+use Rattle.session_answers.specs.Answers.{answerBits, checkBits}
+use Rattle.traces.specs.Checks.{sizesCheck, valuesCheck, turnCheck, turnBackCheck}
+
+-- a check that refuses by numbers from 40 on
+abbrev Numbered : Check → Type 0
+Numbered check = (number returned : ℕ) → check ≡ fail number returned → 40 ≤ number
+
+module _ (values block : List ℕ) (count : ℕ) where
+  sizes-numbered : Numbered (sizesCheck values block count)
+  unfolding sizesCheck
+  sizes-numbered number returned e =
+      ⊎-elim (λ p. let u = unless-false _ 40 0 p .1 in omega arith) (λ p. let u = unless-false _ 52 0 (p .1) .1 in omega arith) (first-fail _ _ e)
+
+  pub turn-numbered : Numbered (turnCheck values block count)
+  unfolding turnCheck valuesCheck
+  turn-numbered number returned e =
+      ⊎-elim (sizes-numbered number returned) (λ p. let u = unless-false _ 42 _ (below-fail count _ (p .1) .fails) .1 in omega arith) (first-fail _ _ e)
+
+  pub back-numbered : Numbered (turnBackCheck block values count)
+  unfolding turnBackCheck
+  back-numbered number returned e =
+      ⊎-elim (sizes-numbered number returned) (λ p. let u = unless-false _ 52 0 (p .1) .1 in omega arith) (first-fail _ _ e)
+
+-- the bits 0 are those of a check that passed
+pub done-passed : (check : Check) → Numbered check → checkBits check ≡ 0 → check ≡ pass
+unfolding checkBits answerBits
+done-passed pass numbered e = refl
+done-passed (fail number returned) numbered e = let n = numbered number returned refl in absurd (omega arith)
+
+pub passed-done : (check : Check) → check ≡ pass → checkBits check ≡ 0
+unfolding checkBits answerBits
+passed-done check p = rw p
