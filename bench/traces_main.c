@@ -1,5 +1,5 @@
-/* Times turning and turning back, Rattle's and C's in turn, on the values of 4,096 signals from a fixed seed, and prints ns a call
- * and the ratio. Exits 1 where an answer or a byte differs. */
+/* Times turning and turning back, Rattle's and C's in turn, on the values of 4,096 signals from a fixed seed, and prints ns a
+ * call and the ratio. Exits 1 where an answer or a byte differs. */
 #include <stdio.h>
 #include <stdlib.h>
 #include <string.h>
@@ -93,7 +93,7 @@ int main(void)
     check(cavundir_turn, c_turn, VALUES, BLOCK);
     check(cavundir_turn_back, c_turn_back, BLOCK, VALUES);
 
-    printf("%-22s %8s %8s %8s\n", "ns a signal", "Rattle", "C", "ratio");
+    printf("%-22s %8s %8s %8s\n", "ns a call", "Rattle", "C", "ratio");
     compare_count(64, "turn, 64 cycles", "turn back, 64 cycles");
     compare_count(17, "turn, 17 cycles", "turn back, 17 cycles");
     return 0;

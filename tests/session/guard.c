@@ -243,16 +243,16 @@ static void try_damaged(struct bytes from[LENT])
 /* Turning with the values past the count where nobody may touch them: only values within the count are read. */
 static void turn_within(const struct call *call, const struct bytes from[LENT])
 {
-    struct bytes within = {from[VALUES].at, call->numbers[0]}, after[LENT] = {[VALUES] = from[VALUES]};
+    struct bytes within = {from[VALUES].at, call->numbers[0]}, buffers[LENT] = {0};
     current = call;
     begins = false;
     where = "with the values past the count on a guarded page";
     lent[VALUES] = guard(within);
-    lent[BLOCK].buffer = after[BLOCK] = block(from[BLOCK].length);
-    after[VALUES].at = lent[VALUES].buffer.at;
-    if (make_any(call, after) != 0 || memcmp(after[BLOCK].at, from[BLOCK].at, from[BLOCK].length))
+    lent[BLOCK].buffer = buffers[BLOCK] = block(from[BLOCK].length);
+    buffers[VALUES] = (struct bytes){lent[VALUES].buffer.at, from[VALUES].length};
+    if (make_any(call, buffers) != 0 || memcmp(buffers[BLOCK].at, from[BLOCK].at, from[BLOCK].length))
         fail("its answer or its block is not that on ordinary memory", "");
-    free(after[BLOCK].at);
+    free(buffers[BLOCK].at);
     munmap(lent[VALUES].map, lent[VALUES].inner + 2 * page);
     lent[VALUES].map = NULL;
     made++;
@@ -263,12 +263,11 @@ static void try_turning(const struct bytes from[LENT])
 {
     for (uint32_t count = 0; count <= from[VALUES].length + 1; count++) {
         const struct call turn = {.name = "turn", .numbers = {count}}, back = {.name = "back", .numbers = {count}};
-        try(&back, from); /* the block of a cycle less */
-        bool legal = make_any(&turn, from) == 0;
+        if (make_any(&turn, from) == 0)
+            turn_within(&turn, from);
         try(&turn, from);
         try(&back, from);
-        if (legal)
-            turn_within(&turn, from);
+        try(&(struct call){.name = "back", .numbers = {count - 1}}, from); /* an unused bit is set, most often */
         if (count % 32 < 2) {
             try_lengths(&turn, from, VALUES);
             try_lengths(&back, from, VALUES);
