@@ -1,10 +1,10 @@
 /* cavundir.h: the calls of Cavundir, a lockstep logic simulator, for a front panel in C or C++.
  *
- * A session lives in three working buffers that the panel owns and lends to every call: panel, program and memory. Each
- * has one fixed length. The calls keep nothing else: a session is its buffers, and a copy of them is a session too.
+ * A session lives in three working buffers that the panel owns and lends to every call on it: panel, program and memory.
+ * Each has one fixed length. The calls keep nothing else: a session is its buffers, and a copy of them is a session too.
  *
- * Two calls are for recorders, and take no session: cavundir_turn stores the values of a signal in a block of two bits a
- * cycle, and cavundir_turn_back gives them back.
+ * Two calls are for recorders, and take none of these buffers: cavundir_turn stores the values of a signal in a block of
+ * two bits a cycle, and cavundir_turn_back gives them back.
  *
  * A buffer is handed over as a pointer and a length in bytes. The buffers of one call must not overlap. A null pointer
  * is allowed with length 0; as NET, MOD or STIM that is a file that is absent. The bytes of a file are only read.
