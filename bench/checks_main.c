@@ -3,10 +3,10 @@
 #include <stdio.h>
 #include <stdlib.h>
 #include <string.h>
-#include <time.h>
 
 #include "cavundir.h"
 #include "checks.h"
+#include "clock.h"
 
 enum { PROCESSORS = 16, SLOTS = 256, SIGNALS = PROCESSORS * SLOTS, STIM_LINES = 65534 };
 enum { NET_LENGTH = 73 * (SIGNALS + 1), MOD_LENGTH = 85 * (SIGNALS + 1), STIM_LENGTH = 19 * STIM_LINES };
@@ -66,13 +66,6 @@ static void make_files(void)
     for (unsigned k = 0; k < rest; k++)
         s = put(s, (unsigned[3]){1 + k / PROCESSORS, placed_at(k % PROCESSORS, 0), k % 4}, 3);
     put(s, (unsigned[3]){65535}, 3);
-}
-
-static double now(void)
-{
-    struct timespec t;
-    clock_gettime(CLOCK_MONOTONIC, &t);
-    return t.tv_sec + 1e-9 * t.tv_nsec;
 }
 
 /* The largest files are accepted; with a byte more at the end of STIM, refused there. */

@@ -3,9 +3,9 @@
 #include <stdio.h>
 #include <stdlib.h>
 #include <string.h>
-#include <time.h>
 
 #include "cavundir.h"
+#include "clock.h"
 #include "machine.h"
 #include "random.h"
 
@@ -204,13 +204,6 @@ static void check(struct board *b)
     if (run_in_rattle(b, 1) != 65536 || memcmp(by_rattle, b->start, MEMORY) != 0)
         fail("machine: tables out of range were run");
     b->panel[MASK] = 0;
-}
-
-static double now(void)
-{
-    struct timespec t;
-    clock_gettime(CLOCK_MONOTONIC, &t);
-    return t.tv_sec + 1e-9 * t.tv_nsec;
 }
 
 typedef uint64_t run(struct board *b, uint16_t cycles);

@@ -15,8 +15,9 @@ static size_t lengths[FILES];
 static uint8_t panel[CAVUNDIR_PANEL_BYTES], program[CAVUNDIR_PROGRAM_BYTES], memory[CAVUNDIR_MEMORY_BYTES];
 
 /* what the next call is given, and what it answered */
-static size_t program_bytes = sizeof program;
+static size_t program_bytes = sizeof program, block_bytes = CAVUNDIR_TRACE_BLOCK_BYTES;
 static uint32_t signal_given, number_given;
+static uint8_t values[CAVUNDIR_TRACE_VALUES_BYTES], block[CAVUNDIR_TRACE_BLOCK_BYTES];
 static uint64_t answer;
 
 #define GIVEN files[NET], lengths[NET], files[MOD], lengths[MOD], files[STIM], lengths[STIM]
@@ -28,14 +29,16 @@ static void setting(void) { answer = cavundir_set(SESSION, signal_given, number_
 static void watching(void) { answer = cavundir_watch(SESSION, signal_given, number_given); }
 static void reading(void) { answer = cavundir_read(SESSION, signal_given); }
 static void running(void) { answer = cavundir_run(SESSION, number_given); }
+static void turning(void) { answer = cavundir_turn(values, sizeof values, block, block_bytes, number_given); }
+static void turning_back(void) { answer = cavundir_turn_back(block, block_bytes, values, sizeof values, number_given); }
 
 static struct call {
     const char *name;
     void (*make)(void);
     size_t most;
-} calls[] = {{"check_files", checking, 0}, {"open", opening, 0},  {"set", setting, 0},
-             {"watch", watching, 0},       {"read", reading, 0}, {"run", running, 0}};
-enum { CHECK_FILES, OPEN, SET, WATCH, READ, RUN, CALLS };
+} calls[] = {{"check_files", checking, 0}, {"open", opening, 0}, {"set", setting, 0},   {"watch", watching, 0},
+             {"read", reading, 0},         {"run", running, 0},  {"turn", turning, 0}, {"turn_back", turning_back, 0}};
+enum { CHECK_FILES, OPEN, SET, WATCH, READ, RUN, TURN, TURN_BACK, CALLS };
 
 static void (*make)(void);
 static uint8_t *from;
@@ -71,15 +74,30 @@ static void measure(int which)
         calls[which].most = needed;
 }
 
-/* Every call with these numbers; `lent` is the program's length. */
+/* Every call on a session with these numbers; `lent` is the program's length. */
 static void measure_session(uint32_t signal, uint32_t number, size_t lent)
 {
     signal_given = signal;
     number_given = number;
     program_bytes = lent;
-    for (int which = SET; which < CALLS; which++)
+    for (int which = SET; which <= RUN; which++)
         measure(which);
     program_bytes = sizeof program;
+}
+
+/* Both turning calls with every count and two that are refused by 52; then by 40. The value makes bits of every cycle, or is
+ * refused by 42. */
+static void measure_turning(uint8_t value)
+{
+    memset(values, value, sizeof values);
+    for (number_given = 0; number_given <= sizeof values + 1; number_given++) {
+        measure(TURN);
+        measure(TURN_BACK);
+    }
+    block_bytes = 0;
+    measure(TURN);
+    measure(TURN_BACK);
+    block_bytes = sizeof block;
 }
 
 static void read_files(const char *folder)
@@ -110,6 +128,8 @@ int main(int count, char **folders)
         measure(OPEN);
         program_bytes = sizeof program;
     }
+    measure_turning(3);
+    measure_turning(4);
     if (opened == 0) {
         fprintf(stderr, "bench: FAILED: no files were accepted\n");
         return 1;

@@ -1,7 +1,10 @@
 /* cavundir.h: the calls of Cavundir, a lockstep logic simulator, for a front panel in C or C++.
  *
- * A session lives in three working buffers that the panel owns and lends to every call: panel, program and memory. Each
- * has one fixed length. The calls keep nothing else: a session is its buffers, and a copy of them is a session too.
+ * A session lives in three working buffers that the panel owns and lends to every call on it: panel, program and memory.
+ * Each has one fixed length. The calls keep nothing else: a session is its buffers, and a copy of them is a session too.
+ *
+ * Two calls are for recorders, and take none of these buffers: cavundir_turn stores the values of a signal in a block of
+ * two bits a cycle, and cavundir_turn_back gives them back.
  *
  * A buffer is handed over as a pointer and a length in bytes. The buffers of one call must not overlap. A null pointer
  * is allowed with length 0; as NET, MOD or STIM that is a file that is absent. The bytes of a file are only read.
@@ -26,13 +29,18 @@ extern "C" {
 #endif
 
 /* The version of this header and of its archive: 100 for each whole number, and 1 for each after the point. */
-#define CAVUNDIR_VERSION 100
-#define CAVUNDIR_VERSION_TEXT "1.0"
+#define CAVUNDIR_VERSION 101
+#define CAVUNDIR_VERSION_TEXT "1.1"
 
 /* The lengths of the working buffers. With any other length a call is refused. */
 #define CAVUNDIR_PANEL_BYTES 40970
 #define CAVUNDIR_PROGRAM_BYTES 53248
 #define CAVUNDIR_MEMORY_BYTES 20480
+
+/* The lengths of the buffers for turning: a byte for the value of each of up to 64 cycles, and a block of two bits for
+ * each. With any other length a call is refused. */
+#define CAVUNDIR_TRACE_VALUES_BYTES 64
+#define CAVUNDIR_TRACE_BLOCK_BYTES 16
 
 /* The numbers of the refusals, and what each returns. Lines are counted from 1. cavundir_text says each in a sentence. */
 enum cavundir_number {
@@ -53,15 +61,18 @@ enum cavundir_number {
     CAVUNDIR_STIM_LAYOUT = 31,      /* line: a value, a fixed zero or the order is wrong */
     CAVUNDIR_STIM_NO_INPUT = 32,    /* line: a time after 0 on a signal that is no input */
 
-    /* by any call that is lent working buffers */
-    CAVUNDIR_LENGTH = 40,           /* 0: a working buffer has a wrong length */
+    /* by any call but the check */
+    CAVUNDIR_LENGTH = 40,           /* 0: a buffer that has a fixed length is lent with another */
 
-    /* by set, watch, read and run */
+    /* by set, watch, read and run; 42 also by turn */
     CAVUNDIR_SIGNAL = 41,           /* the signal given: 0 or above N, or set on a gate */
-    CAVUNDIR_VALUE = 42,            /* the value given: above 3, or a mask above 15 */
+    CAVUNDIR_VALUE = 42,            /* the value given: above 3, or a mask above 15; of turn: the first above 3 */
     CAVUNDIR_CYCLES = 43,           /* the cycles finished: these and the cycles given exceed 65535 */
-    CAVUNDIR_DAMAGED = 44           /* 0: no session is in the buffers, a number in them is out of its range, or a byte
+    CAVUNDIR_DAMAGED = 44,          /* 0: no session is in the buffers, a number in them is out of its range, or a byte
                                        that holds no number is not 0; whether the tables belong together is not judged */
+
+    /* by turn and turn_back */
+    CAVUNDIR_BLOCK = 52             /* 0: the cycle count is 0 or above 64; by turn_back too: an unused bit is set */
 };
 
 /* Checks the three files alone. It answers what an opening on working buffers of the right lengths answers: not refused
@@ -109,6 +120,21 @@ uint64_t cavundir_run(uint8_t *panel, size_t panel_bytes,
                       uint8_t *memory, size_t memory_bytes,
                       uint32_t cycles);
 
+/* The two calls below turn the values of one signal in up to 64 cycles, a byte each, into a block of 16 bytes, and back.
+ * The caller keeps the block's cycle count, 1 to 64, and gives it at each call. Cycle j, from 0, has the low bit of its
+ * value in bit j % 8 of byte j / 8 of the block, and the high bit in the same bit of byte 8 + j / 8. Bits of cycles from
+ * the count on are unused, and 0. A refused call changes no byte. */
+
+/* Turns values into a block, and writes all of its bytes. Only the first `count` values are read. */
+uint64_t cavundir_turn(const uint8_t *values, size_t values_bytes,
+                       uint8_t *block, size_t block_bytes,
+                       uint32_t count);
+
+/* Turns a block back into values, and writes all of them: those from the count on are 0. */
+uint64_t cavundir_turn_back(const uint8_t *block, size_t block_bytes,
+                            uint8_t *values, size_t values_bytes,
+                            uint32_t count);
+
 /* The refusal's number, one of enum cavundir_number; 0 where the call was not refused. */
 static inline unsigned cavundir_refusal(uint64_t answer)
 {
@@ -154,15 +180,17 @@ static inline const char *cavundir_text(unsigned number)
     case CAVUNDIR_STIM_NO_INPUT:
         return "STIM: the line names a signal that is no input, at a time after 0.";
     case CAVUNDIR_LENGTH:
-        return "A working buffer has a wrong length.";
+        return "A working buffer, or one for turning, has a wrong length.";
     case CAVUNDIR_SIGNAL:
         return "The signal is 0 or above N, or it is a gate and was to be set.";
     case CAVUNDIR_VALUE:
-        return "The value is above 3, or the mask above 15.";
+        return "The value, or a recorded one, is above 3, or the mask above 15.";
     case CAVUNDIR_CYCLES:
         return "The cycles finished and those asked for are above 65535 together.";
     case CAVUNDIR_DAMAGED:
         return "The working buffers hold no session, or a number in them is out of its range.";
+    case CAVUNDIR_BLOCK:
+        return "The cycle count of a block is 0 or above 64, or a bit past it is set.";
     default:
         return "No refusal has this number.";
     }

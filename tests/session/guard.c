@@ -3,8 +3,9 @@
  * Each buffer lent ends at such a page, and in a second round begins after one; one that is lent to read stands on pages
  * that cannot be written. A buffer has 0 bytes, 1, one too few, as many as it should or one too many, each length of one
  * with each of the others; NET, MOD and STIM are those of FOLDER, cut or a byte longer. Answer and bytes must be those of
- * the same call on ordinary memory; with a wrong length that is 40. Prints how many calls were made. Where a call touches
- * what it was not lent, it says which byte, and exits with 1.
+ * the same call on ordinary memory; with a wrong length that is 40. Turning is tried too with the values past the count on
+ * a guarded page. Prints how many calls were made. Where a call touches what it was not lent, it says which byte, and exits
+ * with 1.
  */
 #define _GNU_SOURCE
 #include <signal.h>
@@ -13,7 +14,8 @@
 
 #include "calls.h"
 
-enum { LENT = FILES + BUFFERS }; /* the files first, as the opening takes them */
+/* the files first, as the opening takes them; last the buffers of turning */
+enum { VALUES = FILES + BUFFERS, BLOCK, LENT };
 enum { VARIED = 5, SLACK = 0xC3, DAMAGED = 64 };
 
 /* A page that nobody may touch, the pages with the buffer, and another such page. */
@@ -33,21 +35,61 @@ static unsigned long made;
 
 static const char *name_of(int which)
 {
+    if (which >= VALUES)
+        return which == VALUES ? "values" : "block";
     return which < FILES ? file_names[which] : buffer_names[which - FILES];
 }
 
-/* The first of the buffers that a call takes: the opening alone takes files. */
+/* The one length of a buffer that is no file. */
+static size_t length_of(int which)
+{
+    if (which >= VALUES)
+        return which == VALUES ? CAVUNDIR_TRACE_VALUES_BYTES : CAVUNDIR_TRACE_BLOCK_BYTES;
+    return lengths[which - FILES];
+}
+
+static bool turns(const struct call *call)
+{
+    return !strcmp(call->name, "turn") || !strcmp(call->name, "back");
+}
+
+/* The first of the buffers that a call takes, the opening alone taking files, and the one after the last. */
 static int first_of(const struct call *call)
 {
+    if (turns(call))
+        return VALUES;
     return strcmp(call->name, "open") ? FILES : 0;
+}
+
+static int end_of(const struct call *call)
+{
+    return turns(call) ? LENT : VALUES;
+}
+
+/* Whether a call that was not refused may write to a buffer. */
+static bool may_write(const struct call *call, int which)
+{
+    if (turns(call))
+        return which == (strcmp(call->name, "turn") ? VALUES : BLOCK);
+    return which >= FILES && writes(call, which - FILES);
+}
+
+static uint64_t make_any(const struct call *call, const struct bytes on[LENT])
+{
+    const struct bytes values = on[VALUES], block = on[BLOCK];
+    if (!turns(call))
+        return make(call, on, on + FILES);
+    if (!strcmp(call->name, "turn"))
+        return cavundir_turn(values.at, values.length, block.at, block.length, call->numbers[0]);
+    return cavundir_turn_back(block.at, block.length, values.at, values.length, call->numbers[0]);
 }
 
 /* Says which call it was; what is wrong with it follows. */
 static void say_call(void)
 {
     fprintf(stderr, "%s: %s %u %u, lent", folder, current->name, current->numbers[0], current->numbers[1]);
-    for (int l = first_of(current); l < LENT; l++)
-        fprintf(stderr, " %s of %zu%s", name_of(l), lent[l].buffer.length, l < LENT - 1 ? "," : "");
+    for (int l = first_of(current), end = end_of(current); l < end; l++)
+        fprintf(stderr, " %s of %zu%s", name_of(l), lent[l].buffer.length, l < end - 1 ? "," : "");
     fprintf(stderr, " bytes, %s: ", where);
 }
 
@@ -104,15 +146,15 @@ static void make_guarded(const struct call *call, const struct bytes from[LENT],
                          const struct bytes after[LENT])
 {
     struct bytes buffers[LENT] = {0};
-    for (int l = first_of(call); l < LENT; l++) {
+    for (int l = first_of(call); l < end_of(call); l++) {
         lent[l] = guard(from[l]);
         buffers[l] = lent[l].buffer;
-        if (lent[l].inner && (l < FILES || !writes(call, l - FILES)))
+        if (lent[l].inner && !may_write(call, l))
             mprotect(lent[l].map + page, lent[l].inner, PROT_READ);
     }
-    if (make(call, buffers, buffers + FILES) != expected)
+    if (make_any(call, buffers) != expected)
         fail("its answer is not that on ordinary memory", "");
-    for (int l = first_of(call); l < LENT; l++) {
+    for (int l = first_of(call); l < end_of(call); l++) {
         check(l, after[l]);
         munmap(lent[l].map, lent[l].inner + 2 * page);
         lent[l].map = NULL;
@@ -127,12 +169,12 @@ static void try(const struct call *call, const struct bytes from[LENT])
     bool right = true;
     current = call;
     where = "on ordinary memory";
-    for (int l = first_of(call); l < LENT; l++) {
+    for (int l = first_of(call); l < end_of(call); l++) {
         lent[l].buffer = after[l] = block(from[l].length);
         memcpy(after[l].at, from[l].at, from[l].length);
-        right = right && (l < FILES || from[l].length == lengths[l - FILES]);
+        right = right && (l < FILES || from[l].length == length_of(l));
     }
-    uint64_t expected = make(call, after, after + FILES);
+    uint64_t expected = make_any(call, after);
     if ((cavundir_refusal(expected) == CAVUNDIR_LENGTH) == right)
         fail(right ? "40 with right lengths" : "not 40 with a wrong length", "");
     for (int side = 0; side < 2; side++) {
@@ -140,17 +182,19 @@ static void try(const struct call *call, const struct bytes from[LENT])
         where = begins ? "after a guarded page" : "before a guarded page";
         make_guarded(call, from, expected, after);
     }
-    for (int l = first_of(call); l < LENT; l++)
+    for (int l = first_of(call); l < end_of(call); l++)
         free(after[l].at);
 }
 
-/* The call with every length of three buffers, from `first` on. Each has a byte more than its length says. */
+/* The call with every length of three buffers, or of the two of turning, from `first` on. Each has a byte more than its
+ * length says. */
 static void try_lengths(const struct call *call, const struct bytes from[LENT], int first)
 {
     struct bytes varied[LENT];
+    int end = turns(call) ? first + 2 : first + 3;
     memcpy(varied, from, sizeof varied);
-    for (int choice = 0; choice < VARIED * VARIED * VARIED; choice++) {
-        for (int l = first, rest = choice; l < first + 3; l++, rest /= VARIED) {
+    for (int choice = 0; choice < VARIED * VARIED * (turns(call) ? 1 : VARIED); choice++) {
+        for (int l = first, rest = choice; l < end; l++, rest /= VARIED) {
             size_t whole = from[l].length;
             varied[l].length = (size_t[]){0, 1, whole ? whole - 1 : 0, whole, whole + 1}[rest % VARIED];
         }
@@ -186,7 +230,7 @@ enum { SESSION_CALLS = sizeof session_calls / sizeof *session_calls };
 /* The calls on buffers with one byte changed to 255, which most ranges do not have. */
 static void try_damaged(struct bytes from[LENT])
 {
-    for (int b = FILES; b < LENT; b++)
+    for (int b = FILES; b < VALUES; b++)
         for (int at = 0; at < DAMAGED; at++) {
             uint8_t kept = from[b].at[at];
             from[b].at[at] = 255;
@@ -194,6 +238,41 @@ static void try_damaged(struct bytes from[LENT])
                 try(&session_calls[c], from);
             from[b].at[at] = kept;
         }
+}
+
+/* Turning with the values past the count where nobody may touch them: only values within the count are read. */
+static void turn_within(const struct call *call, const struct bytes from[LENT])
+{
+    struct bytes within = {from[VALUES].at, call->numbers[0]}, buffers[LENT] = {0};
+    current = call;
+    begins = false;
+    where = "with the values past the count on a guarded page";
+    lent[VALUES] = guard(within);
+    lent[BLOCK].buffer = buffers[BLOCK] = block(from[BLOCK].length);
+    buffers[VALUES] = (struct bytes){lent[VALUES].buffer.at, from[VALUES].length};
+    if (make_any(call, buffers) != 0 || memcmp(buffers[BLOCK].at, from[BLOCK].at, from[BLOCK].length))
+        fail("its answer or its block is not that on ordinary memory", "");
+    free(buffers[BLOCK].at);
+    munmap(lent[VALUES].map, lent[VALUES].inner + 2 * page);
+    lent[VALUES].map = NULL;
+    made++;
+}
+
+/* Both turning calls with every count from 0 to one too many, on values and the block of them, and with every length. */
+static void try_turning(const struct bytes from[LENT])
+{
+    for (uint32_t count = 0; count <= from[VALUES].length + 1; count++) {
+        const struct call turn = {.name = "turn", .numbers = {count}}, back = {.name = "back", .numbers = {count}};
+        if (make_any(&turn, from) == 0)
+            turn_within(&turn, from);
+        try(&turn, from);
+        try(&back, from);
+        try(&(struct call){.name = "back", .numbers = {count - 1}}, from); /* an unused bit is set, most often */
+        if (count % 32 < 2) {
+            try_lengths(&turn, from, VALUES);
+            try_lengths(&back, from, VALUES);
+        }
+    }
 }
 
 /* A block with two bytes more than its length says: a file of length 0 is lent with 1 too. */
@@ -226,6 +305,13 @@ int main(int count, char **words)
         memset(from[FILES + b].at, 0xFF, lengths[b] + 1);
         from[FILES + b].length = lengths[b];
     }
+    for (int l = VALUES; l < LENT; l++) {
+        from[l] = block(length_of(l) + 1);
+        for (size_t k = 0; k <= length_of(l); k++)
+            from[l].at[k] = l == VALUES ? 3 - k % 4 : 0;
+        from[l].length = length_of(l);
+    }
+    try_turning(from);
     const struct call opening = {.name = "open"};
     try_lengths(&opening, from, 0);
     try_lengths(&opening, from, FILES);
