@@ -1,9 +1,9 @@
 #!/usr/bin/env python3
 """Document 02, ticket 7, in Python: the values of one signal turned into a block, and a block turned back.
 
-Written from the document alone, to be compared with the proved code: nothing is shared with it. Each half of a block is
-taken as one number of 64 bits, whose bit j is that of cycle j. A call answers as session.py has it, beside the buffer that
-it writes to as it leaves it. Run as a program it prints ANSWERS for the VECTORS in a folder.
+Turning is written from the document alone, to be compared with the proved code: nothing is shared with it. A call answers
+as session.py has it, beside the buffer that it writes to as it leaves it. Run as a program it prints ANSWERS for the
+VECTORS in a folder.
 """
 import sys
 from pathlib import Path
@@ -13,39 +13,40 @@ import session
 from session import OK, refused
 
 VALUES, BLOCK = 64, 16  # bytes
-HALF = BLOCK // 2
-
-
-def sizes(values, block, count):
-    """40, then 52 for the count; None where neither applies."""
-    if len(values) != VALUES or len(block) != BLOCK:
-        return refused(40, 0)
-    return None if 1 <= count <= VALUES else refused(52, 0)
-
-
-def half(bits):
-    """Eight bytes that hold a bit of each cycle, the earliest in the lowest bit of the first."""
-    return sum(bit << cycle for cycle, bit in enumerate(bits)).to_bytes(HALF, "little")
+HALF = 8  # bytes of low bits, and as many of high bits
 
 
 def turn(values, block, count):
-    """The answer, and the block."""
-    if refusal := sizes(values, block, count):
-        return refusal, block
-    recorded = values[:count]
-    if wrong := [value for value in recorded if value > 3]:
-        return refused(42, wrong[0]), block
-    return OK, half(value % 2 for value in recorded) + half(value // 2 for value in recorded)
+    """The answer, and the block afterwards: the first count values turned, or the block as it was if refused."""
+    if len(values) != VALUES or len(block) != BLOCK:
+        return refused(40, 0), block
+    if not 1 <= count <= 64:
+        return refused(52, 0), block
+    for value in values[:count]:
+        if value > 3:
+            return refused(42, value), block
+    turned = bytearray(BLOCK)
+    for cycle in range(count):
+        low, high = values[cycle] & 1, values[cycle] >> 1
+        turned[cycle // 8] |= low << cycle % 8
+        turned[HALF + cycle // 8] |= high << cycle % 8
+    return OK, bytes(turned)
 
 
 def turn_back(block, values, count):
-    """The answer, and the values."""
-    if refusal := sizes(values, block, count):
-        return refusal, values
-    low, high = (int.from_bytes(part, "little") for part in (block[:HALF], block[HALF:]))
-    if max(low, high) >= 2 ** count:
+    """The answer, and the values afterwards: count of them and then 0, or the values as they were if refused."""
+    if len(block) != BLOCK or len(values) != VALUES:
+        return refused(40, 0), values
+    if not 1 <= count <= 64:
         return refused(52, 0), values
-    return OK, bytes((low >> cycle) % 2 + 2 * ((high >> cycle) % 2) for cycle in range(VALUES))
+    read = []
+    for cycle in range(64):
+        low = block[cycle // 8] >> cycle % 8 & 1
+        high = block[HALF + cycle // 8] >> cycle % 8 & 1
+        read.append(low + 2 * high)
+    if any(read[count:]):
+        return refused(52, 0), values
+    return OK, bytes(read)
 
 
 CALLS = {"turn": turn, "turn_back": turn_back}
