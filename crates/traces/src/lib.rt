@@ -13,10 +13,12 @@ ghost use Rattle.traces.specs.Turned.{valuesLength, blockLength, turned,
 ghost use Rattle.traces.specs.Checks.{sizesCheck, valuesCheck, turnCheck, turnBackCheck};
 ghost use Rattle.traces.specs.Answer.{turnRefusal, TurnAnswers};
 
-// The lengths of the two buffers: a byte for each of 64 cycles, and two bits.
-pub const VALUES_BYTES: usize = 64;
+// The lengths of the two buffers, a byte and two bits for each cycle, and the most cycles of a block.
+const VALUES_BYTES: usize = 64;
 
-pub const BLOCK_BYTES: usize = 16;
+const BLOCK_BYTES: usize = 16;
+
+const MOST_CYCLES: u32 = 64;
 
 // What a call answers: done, or refused by 40, 52 or 42.
 pub enum TurnAnswer {
@@ -55,7 +57,7 @@ fn check_sizes(values: &[u8], block: &[u8], count: u32) -> TurnAnswer
     if count == 0 {
         return TurnAnswer::WrongCount;
     }
-    if 64 < count {
+    if MOST_CYCLES < count {
         return TurnAnswer::WrongCount;
     }
     TurnAnswer::Done
@@ -206,13 +208,13 @@ fn value_back(block: &[u8], count: usize, cycle: usize) -> u8
 
 // All values of a block.
 fn turn_back_all(block: &[u8], count: usize, values: &mut [u8])
-    requires { ⌜ (length (now block) ≡ blockLength) × (length (now values) ≡ valuesLength) ⌝ }
+    requires { ⌜ (length (now block) ≡ blockLength) × (count ≤ valuesLength) × (length (now values) ≡ valuesLength) ⌝ }
     ensures { λ _. ⌜ now (values .exit) ≡ turnedBack (now (block .entry)) count ⌝ }
 {
-    let mut c: usize = 0;
-    while c < VALUES_BYTES {
-        values[c] = value_back(block, count, c);
-        c += 1;
+    let mut cycle: usize = 0;
+    while cycle < VALUES_BYTES {
+        values[cycle] = value_back(block, count, cycle);
+        cycle += 1;
     }
 }
 

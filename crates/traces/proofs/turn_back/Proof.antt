@@ -17,7 +17,7 @@ unfolding turnBackCheck
 turn-back-all-requires c κs =
     let told = c .before in
     let right = sizes-right _ _ _ (first-left _ _ (passes (told .before .before .check-turn-back .ensures) (told .enum-told .given .1) refl)) in
-    (right .block-size, right .values-size)
+    (right .block-size, right .count-high, right .values-size)
 
 returns-2 : tie.Need-returns-2
 returns-2 c =

@@ -1,4 +1,4 @@
--- The invariant: the values before cycle c are the block's.
+-- The invariant: the values before the cycle are the block's.
 use Prim.Native.Nat.{_-_}
 use Rattle.logic.proofs.Filling.{Filled, fill-starts, fill-more, fill-ends}
 use Rattle.traces.specs.Turned.{valuesLength, valueBack, turnedBack}
@@ -8,13 +8,13 @@ use Rattle.traces.proofs.turn_back_all.Statement.{statement}
 use Rattle.traces.proofs.turn_back_all.Tie as tie
 
 abbrev Inv-loop : tie.InvT-loop
-Inv-loop block count values₀ c₀ values c = Filled (valueBack block count) valuesLength c values
+Inv-loop block count values₀ cycle₀ values cycle = Filled (valueBack block count) valuesLength cycle values
 
 abbrev μ-loop : tie.MeasureT-loop
-μ-loop block count values₀ c₀ values c = valuesLength - c
+μ-loop block count values₀ cycle₀ values cycle = valuesLength - cycle
 
 loop-holds : tie.Need-loop-holds Inv-loop μ-loop
-loop-holds c = fill-starts _ _ _ (c .before .before .pre .1)
+loop-holds c = fill-starts _ _ _ (c .before .before .pre .2)
 
 loop-again : tie.Need-loop-again Inv-loop μ-loop
 loop-again c = fill-more (c .before .before .loop .inv) _ (c .before .loop-test .taken) (c .value-back .ensures)
