@@ -1,13 +1,13 @@
 -- The two calls one after the other, each by its contract: what was turned comes back, and the second call is not refused.
-use Prim.Native.Nat.{ℕ, _≤_, _<_}
-use mathlib.Core.Path.{_≡_, refl, sym, _∙_, ap, subst}
+use Prim.Native.Nat.{ℕ, _<_}
+use mathlib.Core.Path.{_≡_, sym, _∙_, ap}
 use mathlib.Core.Bool.{true}
 use mathlib.Core.List.{List}
 use native.Mathlib.Omega.{arith}
 use lib.ListN.{length, getD}
 use borrow.Author.Tests.{le-leb}
 use Rattle.logic.specs.Listed.{listed}
-use Rattle.model.specs.Refusal.{Check, pass, unless}
+use Rattle.model.specs.Refusal.{pass}
 use Rattle.model.proofs.Refusals.{first-left, first-right, first-both, unless-true, unless-pass, below-all}
 use Rattle.session_answers.specs.Answers.{checkBits}
 use Rattle.session_answers.specs.Left.{leftAfter}

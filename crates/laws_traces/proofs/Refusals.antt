@@ -1,11 +1,10 @@
 -- What the two calls may refuse by: 40, 52 and, when turning, 42. So an answer of 0 is a call that was done.
-use Prim.Native.Nat.{ℕ, _+_, _*_, _^_, _≤_}
-use mathlib.Core.Path.{_≡_, refl, sym, _∙_}
+use Prim.Native.Nat.{ℕ, _≤_}
+use mathlib.Core.Path.{_≡_, refl}
 use mathlib.Core.List.{List}
 use mathlib.Core.Logic.{⊎-elim}
 use native.Mathlib.Omega.{arith}
 use Rattle.model.specs.Refusal.{Check, pass, fail}
-use Rattle.model.specs.Session.{refused, done}
 use Rattle.model.proofs.Refusals.{first-fail, unless-false, below-fail}
 use Rattle.session_answers.specs.Answers.{answerBits, checkBits}
 use Rattle.traces.specs.Checks.{sizesCheck, valuesCheck, turnCheck, turnBackCheck}

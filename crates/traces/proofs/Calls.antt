@@ -3,7 +3,7 @@
 use Prim.Native.Nat.{ℕ}
 use mathlib.Core.Path.{_≡_, refl, sym, _∙_, ap}
 use mathlib.Core.List.{List}
-use Rattle.model.specs.Refusal.{Check, pass}
+use Rattle.model.specs.Refusal.{Check}
 use Rattle.session_answers.specs.Answers.{answerBits, checkBits}
 use Rattle.session_answers.specs.Left.{leftAfter}
 use Rattle.session_answers.proofs.Left.{left-done, left-refused}

@@ -1,5 +1,5 @@
 -- The shift divides by the bit's weight.
-use Rattle.traces.proofs.Bits.{bit-weight, bit-small}
+use Rattle.traces.proofs.Bits.{bit-weight}
 use native.Mathlib.Omega.{arith}
 use borrow.Author.Needs.{needs}
 use Rattle.traces.proofs.bit_at.Statement.{statement}

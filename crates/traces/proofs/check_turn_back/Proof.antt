@@ -1,9 +1,7 @@
 -- Lengths and count answer where they refuse (`stops`); else the unused bits do (`after`).
-use mathlib.Core.Path.{_≡_, refl}
-use mathlib.Core.Bool.{Bool, false}
-use Prim.Native.Nat.{ℕ}
+use mathlib.Core.Path.{refl}
 use Rattle.logic.proofs.Judged.{fails, passes as passed}
-use Rattle.model.specs.Refusal.{fail, unless}
+use Rattle.model.specs.Refusal.{unless}
 use Rattle.model.proofs.Refusals.{unless-pass}
 use Rattle.file_lines.proofs.Stages.{passes, after, stops, refused, accepted}
 use Rattle.traces.specs.Checks.{turnBackCheck}

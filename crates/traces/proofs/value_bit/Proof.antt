@@ -1,6 +1,5 @@
 -- Bit 0 is the remainder by 2, bit 1 that of the half.
-use mathlib.Core.Path.{_≡_, refl, ap}
-use Prim.Native.Nat.{_%_, _/_}
+use mathlib.Core.Path.{_≡_}
 use Rattle.traces.specs.Bits.{bit}
 use native.Mathlib.Omega.{arith}
 use borrow.Author.Needs.{needs}
