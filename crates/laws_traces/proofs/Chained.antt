@@ -1,13 +1,13 @@
 -- The two calls one after the other, each by its contract: what was turned comes back, and the second call is not refused.
 use Prim.Native.Nat.{ℕ, _<_}
-use mathlib.Core.Path.{_≡_, sym, _∙_, ap}
+use mathlib.Core.Path.{_≡_, sym, _∙_, ap, ap₂}
 use mathlib.Core.Bool.{true}
 use mathlib.Core.List.{List}
 use native.Mathlib.Omega.{arith}
 use lib.ListN.{length, getD}
 use borrow.Author.Tests.{le-leb}
 use Rattle.logic.specs.Listed.{listed}
-use Rattle.model.specs.Refusal.{pass}
+use Rattle.model.specs.Refusal.{Check, pass}
 use Rattle.model.proofs.Refusals.{first-left, first-right, first-both, unless-true, unless-pass, below-all}
 use Rattle.session_answers.specs.Answers.{checkBits}
 use Rattle.session_answers.specs.Left.{leftAfter}
@@ -16,8 +16,8 @@ use Rattle.traces.specs.Turned.{valuesLength, blockLength, within, turned, turn
 use Rattle.traces.specs.Checks.{sizesCheck, valuesCheck, turnCheck, turnBackCheck}
 use Rattle.traces.proofs.Refusals.{Sizes, sizes-right, sizes-pass, values-legal}
 use Rattle.laws_traces.specs.Calls.{Turns, TurnsBack}
-use Rattle.laws_traces.proofs.RoundTrip.{turned-length, turned-clear, forth-and-back, back-length, back-small, back-and-forth}
-use Rattle.laws_traces.proofs.Refusals.{turn-numbered, back-numbered, done-passed, passed-done}
+use Rattle.laws_traces.proofs.RoundTrip.{turned-length, turned-clear, turned-within, forth-and-back, back-length, back-small, back-and-forth}
+use Rattle.laws_traces.proofs.Refusals.{turn-numbered, back-numbered, done-passed, passed-done, check-within}
 
 -- lengths and count of one call serve the other
 sizes-again : (values block others last : List ℕ) (count : ℕ) → sizesCheck values block count ≡ pass
@@ -25,6 +25,18 @@ sizes-again : (values block others last : List ℕ) (count : ℕ) → sizesCheck
 sizes-again values block others last count e v b =
     let right = sizes-right values block count e in
     sizes-pass others last count v b (λ (z : count ≡ 0). omega (arith, right .count-low)) (right .count-high)
+
+-- "Only values within the count are read": with values that agree there a call answers and leaves the same
+pub turn-reads-within : {values others block left left′ : List ℕ} {count bits bits′ : ℕ} → length values ≡ length others
+    → ((c : ℕ) → c < count → getD values c 0 ≡ getD others c 0) → Turns values block count bits left → Turns others block count bits′ left′
+    → (bits ≡ bits′) × (left ≡ left′)
+turn-reads-within {values} {others} {block} {count = count} long same first second =
+    let check = check-within values others block count long same in (
+      first .answer ∙ ap checkBits check ∙ sym (second .answer),
+      first .leaves
+          ∙ ap₂ (λ (k : Check) (bytes : List ℕ). leftAfter k bytes block) check (turned-within values others count same)
+          ∙ sym (second .leaves),
+    )
 
 -- "Turning back gives the values, with 0 past the count"
 module _ {values block others left values′ : List ℕ} {count bits bits′ : ℕ} where

@@ -1,13 +1,16 @@
--- What the two calls may refuse by: 40, 52 and, when turning, 42. So an answer of 0 is a call that was done.
-use Prim.Native.Nat.{ℕ, _≤_}
-use mathlib.Core.Path.{_≡_, refl}
-use mathlib.Core.List.{List}
+-- What the two calls may refuse by: 40, 52 and, when turning, 42, so that an answer of 0 is a call that was done; and what 42 looks at.
+use Prim.Native.Nat.{ℕ, _≤_, _<_}
+use mathlib.Core.Path.{_≡_, refl, ap, ap₂}
+use mathlib.Core.List.{List, [], _∷_}
 use mathlib.Core.Logic.{⊎-elim}
 use native.Mathlib.Omega.{arith}
-use Rattle.model.specs.Refusal.{Check, pass, fail}
-use Rattle.model.proofs.Refusals.{first-fail, unless-false, below-fail}
+use lib.Dec.{leb}
+use lib.ListN.{length, getD}
+use Rattle.model.specs.Refusal.{Check, pass, fail, first, unless}
+use Rattle.model.specs.Session.{sameLengths}
+use Rattle.model.proofs.Refusals.{first-fail, unless-false, below-fail, below-same}
 use Rattle.session_answers.specs.Answers.{answerBits, checkBits}
-use Rattle.traces.specs.Checks.{sizesCheck, valuesCheck, turnCheck, turnBackCheck}
+use Rattle.traces.specs.Checks.{fixed, countRight, sizesCheck, valuesCheck, turnCheck, turnBackCheck}
 
 -- a check that refuses by numbers from 40 on
 abbrev Numbered : Check → Type 0
@@ -38,3 +41,12 @@ done-passed (fail number returned) numbered e = let n = numbered number returned
 pub passed-done : (check : Check) → check ≡ pass → checkBits check ≡ 0
 unfolding checkBits answerBits
 passed-done check p = rw p
+
+-- values past the count are not judged
+pub check-within : (values others block : List ℕ) (count : ℕ) → length values ≡ length others
+    → ((c : ℕ) → c < count → getD values c 0 ≡ getD others c 0) → turnCheck values block count ≡ turnCheck others block count
+unfolding turnCheck sizesCheck valuesCheck
+check-within values others block count long same =
+    ap₂ first
+    (ap (λ (n : ℕ). first (unless (sameLengths (n ∷ length block ∷ []) fixed) 40 0) (unless (countRight count) 52 0)) long)
+    (below-same count _ _ (λ c low. ap (λ (v : ℕ). unless (leb v 3) 42 v) (same c low)))
