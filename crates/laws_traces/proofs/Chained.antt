@@ -12,7 +12,7 @@ use Rattle.model.proofs.Refusals.{first-left, first-right, first-both, unless-t
 use Rattle.session_answers.specs.Answers.{checkBits}
 use Rattle.session_answers.specs.Left.{leftAfter}
 use Rattle.session_answers.proofs.Left.{left-done}
-use Rattle.traces.specs.Turned.{valuesLength, blockLength, within, turned, turnedBack, unusedClear}
+use Rattle.traces.specs.Turned.{valuesLength, blockLength, recorded, turned, turnedBack, unusedClear}
 use Rattle.traces.specs.Checks.{sizesCheck, valuesCheck, turnCheck, turnBackCheck}
 use Rattle.traces.proofs.Refusals.{Sizes, sizes-right, sizes-pass, values-legal}
 use Rattle.laws_traces.specs.Calls.{Turns, TurnsBack}
@@ -41,7 +41,7 @@ turn-reads-within {values} {others} {block} {count = count} long same first seco
 -- "Turning back gives the values, with 0 past the count"
 module _ {values block others left values′ : List ℕ} {count bits bits′ : ℕ} where
   pub turn-then-back : Turns values block count bits left → bits ≡ 0 → length others ≡ valuesLength → TurnsBack left others count bits′ values′
-      → (bits′ ≡ 0) × (values′ ≡ listed valuesLength (within values count))
+      → (bits′ ≡ 0) × (values′ ≡ listed valuesLength (recorded values count))
   unfolding turnCheck turnBackCheck
   turn-then-back turns done long back = (
     back .answer ∙ ap (λ (l : List ℕ). checkBits (turnBackCheck l others count)) is ∙ passed-done _ passed,

@@ -10,7 +10,7 @@ use Rattle.model.specs.Refusal.{Check, pass, fail, first, unless}
 use Rattle.model.specs.Session.{sameLengths}
 use Rattle.model.proofs.Refusals.{first-fail, unless-false, below-fail, below-same}
 use Rattle.session_answers.specs.Answers.{answerBits, checkBits}
-use Rattle.traces.specs.Checks.{fixed, countRight, sizesCheck, valuesCheck, turnCheck, turnBackCheck}
+use Rattle.traces.specs.Checks.{turnFixed, countRight, sizesCheck, valuesCheck, turnCheck, turnBackCheck}
 
 -- a check that refuses by numbers from 40 on
 abbrev Numbered : Check → Type 0
@@ -48,5 +48,5 @@ pub check-within : (values others block : List ℕ) (count : ℕ) → length val
 unfolding turnCheck sizesCheck valuesCheck
 check-within values others block count long same =
     ap₂ first
-    (ap (λ (n : ℕ). first (unless (sameLengths (n ∷ length block ∷ []) fixed) 40 0) (unless (countRight count) 52 0)) long)
+    (ap (λ (n : ℕ). first (unless (sameLengths (n ∷ length block ∷ []) turnFixed) 40 0) (unless (countRight count) 52 0)) long)
     (below-same count _ _ (λ c low. ap (λ (v : ℕ). unless (leb v 3) 42 v) (same c low)))

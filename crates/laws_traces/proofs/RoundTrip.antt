@@ -12,7 +12,7 @@ use Rattle.logic.specs.Listed.{listed}
 use Rattle.logic.proofs.Listed.{listed-length, listed-at, is-listed}
 use Rattle.logic.proofs.Tests.{all-at, all-true, or-left, or-right, or-otherwise}
 use Rattle.traces.specs.Bits.{bit, bits}
-use Rattle.traces.specs.Turned.{valuesLength, blockLength, within, turnedByte, turned, valueIn, valueBack, turnedBack, unusedClear}
+use Rattle.traces.specs.Turned.{valuesLength, blockLength, recorded, turnedByte, turned, blockValue, valueBack, turnedBack, unusedClear}
 use Rattle.traces.proofs.Bits.{bit-small, bit-of-bits, bits-same, bits-below, low-byte}
 use Rattle.traces.proofs.Unused.{clearAt}
 
@@ -31,18 +31,18 @@ module _ (values : List ℕ) (count : ℕ) where
       rw (listed-at blockLength (turnedByte values count) b inside) (bits-below _ (λ i. bit-small _ (b / 8)) 8)
 
   -- byte 8 h + a of a block that is turned: its bits
-  byte-at : (h a : ℕ) → h < 2 → a < 8 → getD (turned values count) (8 * h + a) 0 ≡ bits (λ i. bit (within values count (8 * a + i)) h) 8
+  byte-at : (h a : ℕ) → h < 2 → a < 8 → getD (turned values count) (8 * h + a) 0 ≡ bits (λ i. bit (recorded values count (8 * a + i)) h) 8
   unfolding turned turnedByte
   byte-at h a low-h low-a =
       listed-at blockLength (turnedByte values count) (8 * h + a) (omega arith)
-      ∙ ap₂ (λ (q r : ℕ). bits (λ i. bit (within values count (8 * q + i)) r) 8) (omega arith) (omega arith)
+      ∙ ap₂ (λ (q r : ℕ). bits (λ i. bit (recorded values count (8 * q + i)) r) 8) (omega arith) (omega arith)
 
   -- turned and read again: every value within the count, and 0 past it
-  turned-value : (c : ℕ) → c < valuesLength → within values count c ≤ 3 → valueIn (turned values count) c ≡ within values count c
-  unfolding valueIn
+  turned-value : (c : ℕ) → c < valuesLength → recorded values count c ≤ 3 → blockValue (turned values count) c ≡ recorded values count c
+  unfolding blockValue
   turned-value c low small =
       ap₂ (λ (x y : ℕ). x + 2 * y) (ap (λ (y : ℕ). bit (getD (turned values count) y 0) (c % 8)) first ∙ at 0 (omega arith)) (at 1 (omega arith))
-      ∙ two-bits (within values count c) small
+      ∙ two-bits (recorded values count c) small
     where
       first : c / 8 ≡ 8 * 0 + c / 8
       first = omega arith
@@ -50,42 +50,42 @@ module _ (values : List ℕ) (count : ℕ) where
       cycle : 8 * (c / 8) + c % 8 ≡ c
       cycle = omega arith
 
-      at : (h : ℕ) → h < 2 → bit (getD (turned values count) (8 * h + c / 8) 0) (c % 8) ≡ bit (within values count c) h
+      at : (h : ℕ) → h < 2 → bit (getD (turned values count) (8 * h + c / 8) 0) (c % 8) ≡ bit (recorded values count c) h
       at h low-h =
           ap (λ (x : ℕ). bit x (c % 8)) (byte-at h (c / 8) low-h (omega arith))
-          ∙ bit-of-bits (λ i. bit (within values count (8 * (c / 8) + i)) h) (λ i. bit-small _ h) 8 (c % 8) (omega arith)
-          ∙ ap (λ (y : ℕ). bit (within values count y) h) cycle
+          ∙ bit-of-bits (λ i. bit (recorded values count (8 * (c / 8) + i)) h) (λ i. bit-small _ h) 8 (c % 8) (omega arith)
+          ∙ ap (λ (y : ℕ). bit (recorded values count y) h) cycle
 
   -- "unused bits are 0": a block that is turned has none set
   pub turned-clear : unusedClear (turned values count) count ≡ true
-  unfolding unusedClear within
+  unfolding unusedClear recorded
   turned-clear = all-true (clearAt (turned values count) count) valuesLength (λ c low. go c low (ltb c count) refl)
     where
       go : (c : ℕ) → c < valuesLength → (b : Bool) → ltb c count ≡ b → clearAt (turned values count) count c ≡ true
       go c low true e = or-left _ _ e
       go c low false e =
-          let past : within values count c ≡ 0 = rw e in
-          or-right _ _ (eq-eqb (valueIn (turned values count) c) 0 (turned-value c low (omega (arith, past)) ∙ past))
+          let past : recorded values count c ≡ 0 = rw e in
+          or-right _ _ (eq-eqb (blockValue (turned values count) c) 0 (turned-value c low (omega (arith, past)) ∙ past))
 
   -- "Turning back gives the values, with 0 past the count"
-  pub forth-and-back : ((c : ℕ) → c < count → getD values c 0 ≤ 3) → turnedBack (turned values count) count ≡ listed valuesLength (within values count)
-  unfolding turnedBack valueBack within
+  pub forth-and-back : ((c : ℕ) → c < count → getD values c 0 ≤ 3) → turnedBack (turned values count) count ≡ listed valuesLength (recorded values count)
+  unfolding turnedBack valueBack recorded
   forth-and-back small =
-      is-listed _ valuesLength (within values count) (listed-length valuesLength _)
+      is-listed _ valuesLength (recorded values count) (listed-length valuesLength _)
       (λ c low. listed-at valuesLength _ c low ∙ go c low (ltb c count) refl)
     where
       go : (c : ℕ) → c < valuesLength → (b : Bool) → ltb c count ≡ b
-          → (if b then valueIn (turned values count) c else 0) ≡ (if b then getD values c 0 else 0)
+          → (if b then blockValue (turned values count) c else 0) ≡ (if b then getD values c 0 else 0)
       go c low true e =
           let legal = small c (ltb-true c count e) in
-          let here : within values count c ≡ getD values c 0 = rw e in
+          let here : recorded values count c ≡ getD values c 0 = rw e in
           turned-value c low (rw here legal) ∙ here
       go c low false e = refl
 
 -- "Only values within the count are read": values that agree there are turned alike
 pub turned-within : (values others : List ℕ) (count : ℕ) → ((c : ℕ) → c < count → getD values c 0 ≡ getD others c 0)
     → turned values count ≡ turned others count
-unfolding turned turnedByte within
+unfolding turned turnedByte recorded
 turned-within values others count same =
     is-listed (turned values count) blockLength (turnedByte others count) (listed-length blockLength _)
     (λ b inside. listed-at blockLength _ b inside ∙ bits-same _ _ 8 (λ i low. ap (λ (v : ℕ). bit v (b / 8)) (go _ (ltb _ count) refl)))
@@ -101,7 +101,7 @@ module _ (block : List ℕ) (count : ℕ) where
 
   -- what comes back is a value of a signal
   pub back-small : (c : ℕ) → c < valuesLength → getD (turnedBack block count) c 0 ≤ 3
-  unfolding turnedBack valueBack valueIn
+  unfolding turnedBack valueBack blockValue
   back-small c low = rw (listed-at valuesLength (valueBack block count) c low) (go (ltb c count))
     where
       go : (b : Bool) → (if b then bit (getD block (c / 8) 0) (c % 8) + 2 * bit (getD block (8 + c / 8) 0) (c % 8) else 0) ≤ 3
@@ -112,8 +112,8 @@ module _ (block : List ℕ) (count : ℕ) where
       go false = omega arith
 
   -- bit i of byte 8 h + a is bit h of the value of cycle 8 a + i
-  value-bit : (h a i : ℕ) → h < 2 → a < 8 → i < 8 → bit (valueIn block (8 * a + i)) h ≡ bit (getD block (8 * h + a) 0) i
-  unfolding valueIn bit
+  value-bit : (h a i : ℕ) → h < 2 → a < 8 → i < 8 → bit (blockValue block (8 * a + i)) h ≡ bit (getD block (8 * h + a) 0) i
+  unfolding blockValue bit
   value-bit h a i low-h low-a low-i =
       let q : a ≡ (8 * a + i) / 8 = omega arith in
       let r : i ≡ (8 * a + i) % 8 = omega arith in
@@ -134,8 +134,8 @@ module _ (block : List ℕ) (count : ℕ) where
 
   module _ (clear : unusedClear block count ≡ true) where
     -- the bits that are read again are the block's, those past the count too, which are 0
-    kept : (h a i : ℕ) → h < 2 → a < 8 → i < 8 → bit (within (turnedBack block count) count (8 * a + i)) h ≡ bit (getD block (8 * h + a) 0) i
-    unfolding turnedBack valueBack within unusedClear
+    kept : (h a i : ℕ) → h < 2 → a < 8 → i < 8 → bit (recorded (turnedBack block count) count (8 * a + i)) h ≡ bit (getD block (8 * h + a) 0) i
+    unfolding turnedBack valueBack recorded unusedClear
     kept h a i low-h low-a low-i = go (ltb (8 * a + i) count) refl
       where
         go : (b : Bool) → ltb (8 * a + i) count ≡ b
@@ -145,7 +145,7 @@ module _ (block : List ℕ) (count : ℕ) where
             ∙ value-bit h a i low-h low-a low-i
         go false e = ap (λ (y : ℕ). bit y h) (sym unused) ∙ value-bit h a i low-h low-a low-i
           where
-            unused : valueIn block (8 * a + i) ≡ 0
+            unused : blockValue block (8 * a + i) ≡ 0
             unused =
                 eqb-true _ _
                 (or-otherwise _ _ (all-at (clearAt block count) valuesLength clear (8 * a + i) (omega arith))

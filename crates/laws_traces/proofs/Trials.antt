@@ -7,21 +7,21 @@ use Rattle.logic.specs.Test.{_and_, _or_, all}
 use Rattle.logic.specs.Listed.{listed}
 use Rattle.model.specs.Refusal.{fail, first, unless, firstBelow}
 use Rattle.traces.specs.Bits.{bit, bits}
-use Rattle.traces.specs.Turned.{within, turnedByte, turned, valueIn, unusedClear}
+use Rattle.traces.specs.Turned.{recorded, turnedByte, turned, blockValue, unusedClear}
 use Rattle.traces.specs.Checks.{valuesCheck}
 
 pub nine-cycles : turned (1 ∷ 0 ∷ 0 ∷ 0 ∷ 0 ∷ 0 ∷ 0 ∷ 0 ∷ 2 ∷ 255 ∷ []) 9
     ≡ 1 ∷ 0 ∷ 0 ∷ 0 ∷ 0 ∷ 0 ∷ 0 ∷ 0 ∷ 0 ∷ 1 ∷ 0 ∷ 0 ∷ 0 ∷ 0 ∷ 0 ∷ 0 ∷ []
-unfolding turned turnedByte within bits bit listed
+unfolding turned turnedByte recorded bits bit listed
 nine-cycles = refl
 
 -- bit 1 of byte 9 is the high bit of cycle 9, the tenth: unused with nine cycles, and used with ten
 pub tenth-unused : unusedClear (0 ∷ 0 ∷ 0 ∷ 0 ∷ 0 ∷ 0 ∷ 0 ∷ 0 ∷ 0 ∷ 2 ∷ 0 ∷ 0 ∷ 0 ∷ 0 ∷ 0 ∷ 0 ∷ []) 9 ≡ false
-unfolding unusedClear valueIn bit all _and_ _or_
+unfolding unusedClear blockValue bit all _and_ _or_
 tenth-unused = refl
 
 pub tenth-used : unusedClear (0 ∷ 0 ∷ 0 ∷ 0 ∷ 0 ∷ 0 ∷ 0 ∷ 0 ∷ 0 ∷ 2 ∷ 0 ∷ 0 ∷ 0 ∷ 0 ∷ 0 ∷ 0 ∷ []) 10 ≡ true
-unfolding unusedClear valueIn bit all _and_ _or_
+unfolding unusedClear blockValue bit all _and_ _or_
 tenth-used = refl
 
 -- the first value above 3 within the count is returned

@@ -1,5 +1,5 @@
 pub mod Bits
 pub mod Refusals
-pub mod Words
+pub mod Block
 pub mod Unused
 pub mod Calls

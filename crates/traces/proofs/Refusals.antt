@@ -12,8 +12,8 @@ use Rattle.logic.proofs.Tests.{and-left, and-right}
 use Rattle.model.specs.Refusal.{Check, pass, fail, first, unless, firstBelow}
 use Rattle.model.specs.Session.{sameLengths}
 use Rattle.model.proofs.Refusals.{first-left, first-right, unless-true, unless-pass, below-pass, below-all, below-first}
-use Rattle.traces.specs.Turned.{valuesLength, blockLength}
-use Rattle.traces.specs.Checks.{lent, fixed, countRight, sizesCheck, valuesCheck}
+use Rattle.traces.specs.Turned.{mostCycles, valuesLength, blockLength}
+use Rattle.traces.specs.Checks.{turnLent, turnFixed, countRight, sizesCheck, valuesCheck}
 
 module _ (values block : List ℕ) (count : ℕ) where
   pub wrong-values : (length values ≡ valuesLength → ⊥) → sizesCheck values block count ≡ fail 40 0
@@ -25,7 +25,7 @@ module _ (values block : List ℕ) (count : ℕ) where
     pub values-size : length values ≡ valuesLength
     pub block-size : length block ≡ blockLength
     pub count-low : 1 ≤ count
-    pub count-high : count ≤ valuesLength
+    pub count-high : count ≤ mostCycles
 
   module _ (v : length values ≡ valuesLength) where
     pub wrong-block : (length block ≡ blockLength → ⊥) → sizesCheck values block count ≡ fail 40 0
@@ -37,25 +37,25 @@ module _ (values block : List ℕ) (count : ℕ) where
       unfolding sizesCheck sameLengths countRight first unless _and_
       no-count z = rw (v, b, z)
 
-      pub high-count : valuesLength < count → sizesCheck values block count ≡ fail 52 0
+      pub high-count : mostCycles < count → sizesCheck values block count ≡ fail 52 0
       unfolding sizesCheck sameLengths countRight first unless _and_
-      high-count h = rw (v, b, le-leb 1 count (omega arith), lt-leb count valuesLength h)
+      high-count h = rw (v, b, le-leb 1 count (omega arith), lt-leb count mostCycles h)
 
-      pub sizes-pass : (count ≡ 0 → ⊥) → count ≤ valuesLength → sizesCheck values block count ≡ pass
+      pub sizes-pass : (count ≡ 0 → ⊥) → count ≤ mostCycles → sizesCheck values block count ≡ pass
       unfolding sizesCheck sameLengths countRight first unless _and_
-      sizes-pass some h = rw (v, b, le-leb 1 count (omega arith), le-leb count valuesLength h)
+      sizes-pass some h = rw (v, b, le-leb 1 count (omega arith), le-leb count mostCycles h)
 
   -- the check that passed tells it
   pub sizes-right : sizesCheck values block count ≡ pass → Sizes
   unfolding sizesCheck sameLengths countRight
   sizes-right e =
-      let lengths = unless-true (sameLengths (lent values block) fixed) 40 0 (first-left _ _ e) in
+      let lengths = unless-true (sameLengths (turnLent values block) turnFixed) 40 0 (first-left _ _ e) in
       let counted = unless-true (countRight count) 52 0 (first-right _ _ e) in
       record {
         values-size = eqb-true _ _ (and-left _ _ lengths);
         block-size = eqb-true _ _ (and-left _ _ (and-right _ _ lengths));
         count-low = leb-true 1 count (and-left _ _ counted);
-        count-high = leb-true count valuesLength (and-right _ _ counted);
+        count-high = leb-true count mostCycles (and-right _ _ counted);
       }
 
 module _ (values : List ℕ) where

@@ -7,22 +7,22 @@ use lib.ListN.{length, getD}
 use Rattle.logic.specs.Test.{_and_}
 use Rattle.model.specs.Refusal.{Check, first, unless, firstBelow}
 use Rattle.model.specs.Session.{Lengths, sameLengths}
-use Rattle.traces.specs.Turned.{valuesLength, blockLength, unusedClear}
+use Rattle.traces.specs.Turned.{mostCycles, valuesLength, blockLength, unusedClear}
 
 -- the lengths lent, those of the values and of the block, and the fixed ones
-abbrev pub lent : List ℕ → List ℕ → Lengths
-lent values block = length values ∷ length block ∷ []
+abbrev pub turnLent : List ℕ → List ℕ → Lengths
+turnLent values block = length values ∷ length block ∷ []
 
-abbrev pub fixed : Lengths
-fixed = valuesLength ∷ blockLength ∷ []
+abbrev pub turnFixed : Lengths
+turnFixed = valuesLength ∷ blockLength ∷ []
 
 -- a cycle count from 1 to 64
 unfoldable pub countRight : ℕ → Bool
-countRight count = leb 1 count and leb count valuesLength
+countRight count = leb 1 count and leb count mostCycles
 
 -- of either call: 40, then "a cycle count outside 1 to 64"
 unfoldable pub sizesCheck : List ℕ → List ℕ → ℕ → Check
-sizesCheck values block count = first (unless (sameLengths (lent values block) fixed) 40 0) (unless (countRight count) 52 0)
+sizesCheck values block count = first (unless (sameLengths (turnLent values block) turnFixed) 40 0) (unless (countRight count) 52 0)
 
 -- "42 then returns the first value above 3", of those within the count
 unfoldable pub valuesCheck : List ℕ → ℕ → Check

@@ -9,7 +9,7 @@ ghost use Rattle.logic.specs.Choice.{if_then_else_};
 ghost use Rattle.session_answers.specs.Answers.{checkBits};
 ghost use Rattle.session_answers.specs.Left.{leftAfter};
 ghost use Rattle.traces.specs.Bits.{bit, bits};
-ghost use Rattle.traces.specs.Turned.{valuesLength, blockLength, turned, valueIn, valueBack, turnedBack, unusedClear};
+ghost use Rattle.traces.specs.Turned.{mostCycles, valuesLength, blockLength, turned, blockValue, valueBack, turnedBack, unusedClear};
 ghost use Rattle.traces.specs.Checks.{sizesCheck, valuesCheck, turnCheck, turnBackCheck};
 ghost use Rattle.traces.specs.Answer.{turnRefusal, TurnAnswers};
 
@@ -65,7 +65,7 @@ fn check_sizes(values: &[u8], block: &[u8], count: u32) -> TurnAnswer
 
 // The first value above 3 within the count.
 fn check_values(values: &[u8], count: usize) -> TurnAnswer
-    requires { ⌜ (length (now values) ≡ valuesLength) × (count ≤ valuesLength) ⌝ }
+    requires { ⌜ (length (now values) ≡ valuesLength) × (count ≤ mostCycles) ⌝ }
     ensures { λ r. ⌜ TurnAnswers (valuesCheck (now (values .entry)) count) r ⌝ }
 {
     let mut c: usize = 0;
@@ -93,7 +93,7 @@ fn value_bit(value: u8, half: usize) -> u64
 // One half of a block as a number: the low bits of the values within the count, or the high ones, the earliest cycle lowest. From the
 // last cycle to the first, what is there is doubled and the cycle's bit is added.
 fn turned_half(values: &[u8], count: usize, half: usize) -> u64
-    requires { ⌜ (length (now values) ≡ valuesLength) × (count ≤ valuesLength) × (half < 2) ⌝ }
+    requires { ⌜ (length (now values) ≡ valuesLength) × (count ≤ mostCycles) × (half < 2) ⌝ }
     ensures { λ r. ⌜ r ≡ bits (λ c. bit (getD (now (values .entry)) c 0) half) count ⌝ }
 {
     let mut number: u64 = 0;
@@ -126,7 +126,7 @@ fn block_byte(low: u64, high: u64, b: usize) -> u8
 
 // The block of the values within the count.
 fn turn_all(values: &[u8], count: usize, block: &mut [u8])
-    requires { ⌜ (length (now values) ≡ valuesLength) × (count ≤ valuesLength) × (length (now block) ≡ blockLength) ⌝ }
+    requires { ⌜ (length (now values) ≡ valuesLength) × (count ≤ mostCycles) × (length (now block) ≡ blockLength) ⌝ }
     ensures { λ _. ⌜ now (block .exit) ≡ turned (now (values .entry)) count ⌝ }
 {
     let low = turned_half(values, count, 0);
@@ -171,9 +171,9 @@ fn bit_at(byte: u8, i: usize) -> u8
 }
 
 // The value that a block has for a cycle.
-fn value_in(block: &[u8], cycle: usize) -> u8
+fn block_value(block: &[u8], cycle: usize) -> u8
     requires { ⌜ (length (now block) ≡ blockLength) × (cycle < valuesLength) ⌝ }
-    ensures { λ r. ⌜ r ≡ valueIn (now (block .entry)) cycle ⌝ }
+    ensures { λ r. ⌜ r ≡ blockValue (now (block .entry)) cycle ⌝ }
 {
     let low = bit_at(block[cycle / 8], cycle % 8);
     let high = bit_at(block[8 + cycle / 8], cycle % 8);
@@ -182,12 +182,12 @@ fn value_in(block: &[u8], cycle: usize) -> u8
 
 // No bit past the count is set.
 fn unused_clear(block: &[u8], count: usize) -> bool
-    requires { ⌜ (length (now block) ≡ blockLength) × (count ≤ valuesLength) ⌝ }
+    requires { ⌜ (length (now block) ≡ blockLength) × (count ≤ mostCycles) ⌝ }
     ensures { λ r. ⌜ r ≡ unusedClear (now (block .entry)) count ⌝ }
 {
     let mut c = count;
     while c < VALUES_BYTES {
-        if value_in(block, c) != 0 {
+        if block_value(block, c) != 0 {
             return false;
         }
         c += 1;
@@ -201,14 +201,14 @@ fn value_back(block: &[u8], count: usize, cycle: usize) -> u8
     ensures { λ r. ⌜ r ≡ valueBack (now (block .entry)) count cycle ⌝ }
 {
     if cycle < count {
-        return value_in(block, cycle);
+        return block_value(block, cycle);
     }
     0
 }
 
 // All values of a block.
 fn turn_back_all(block: &[u8], count: usize, values: &mut [u8])
-    requires { ⌜ (length (now block) ≡ blockLength) × (count ≤ valuesLength) × (length (now values) ≡ valuesLength) ⌝ }
+    requires { ⌜ (length (now block) ≡ blockLength) × (count ≤ mostCycles) × (length (now values) ≡ valuesLength) ⌝ }
     ensures { λ _. ⌜ now (values .exit) ≡ turnedBack (now (block .entry)) count ⌝ }
 {
     let mut cycle: usize = 0;

@@ -1,5 +1,5 @@
 -- The shift leaves the byte lowest, and the remainder by 256 is its eight bits.
-use Rattle.traces.proofs.Words.{byte-bits}
+use Rattle.traces.proofs.Block.{byte-bits}
 use borrow.Author.Needs.{needs}
 use Rattle.traces.proofs.byte_of.Statement.{statement}
 use Rattle.traces.proofs.byte_of.Tie as tie

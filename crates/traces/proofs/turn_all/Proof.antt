@@ -2,7 +2,7 @@
 use Prim.Native.Nat.{_-_}
 use Rattle.logic.proofs.Filling.{Filled, fill-starts, fill-more, fill-ends}
 use Rattle.traces.specs.Turned.{blockLength, turnedByte, turned}
-use Rattle.traces.proofs.Words.{byte-turned}
+use Rattle.traces.proofs.Block.{byte-turned}
 use native.Mathlib.Omega.{arith}
 use borrow.Author.Needs.{needs}
 use Rattle.traces.proofs.turn_all.Statement.{statement}

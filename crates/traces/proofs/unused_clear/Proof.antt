@@ -22,12 +22,12 @@ loop-holds c = (omega arith, omega arith, unused-starts _ _)
 returns : tie.Need-returns Inv-loop μ-loop
 returns c =
     let loop = c .before .before .before .loop in
-    unused-set _ _ (loop .c) (c .before .value-in .ensures) (loop .inv .0) (c .before .before .loop-test .taken) (c .if1 .taken)
+    unused-set _ _ (loop .c) (c .before .block-value .ensures) (loop .inv .0) (c .before .before .loop-test .taken) (c .if1 .taken)
 
 loop-again : tie.Need-loop-again Inv-loop μ-loop
 loop-again c =
     let loop = c .before .before .before .loop in
-    (omega arith, omega arith, unused-more _ _ (loop .c) (c .before .value-in .ensures) (loop .inv .2) (c .if1 .left))
+    (omega arith, omega arith, unused-more _ _ (loop .c) (c .before .block-value .ensures) (loop .inv .2) (c .if1 .left))
 
 returns-2 : tie.Need-returns-2 Inv-loop μ-loop
 returns-2 c =

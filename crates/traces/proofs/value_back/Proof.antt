@@ -7,7 +7,7 @@ use Rattle.traces.proofs.value_back.Tie as tie
 
 returns : tie.Need-returns
 unfolding valueBack
-returns c = rw (lt-ltb _ _ (c .before .if1 .taken)) (c .value-in .ensures)
+returns c = rw (lt-ltb _ _ (c .before .if1 .taken)) (c .block-value .ensures)
 
 returns-2 : tie.Need-returns-2
 unfolding valueBack

@@ -9,7 +9,7 @@ use lib.ListN.{getD}
 use borrow.Author.Tests.{ltb-true, ltb-false}
 use Rattle.logic.specs.Choice.{if_then_else_}
 use Rattle.traces.specs.Bits.{bit, bits}
-use Rattle.traces.specs.Turned.{blockLength, within, turnedByte}
+use Rattle.traces.specs.Turned.{blockLength, recorded, turnedByte}
 use Rattle.traces.proofs.Bits.{bit-small, bit-of-0, bit-shift, bits-same, low-byte, bit-of-bits, bit-above-bits}
 
 -- byte a of a number has the eight bits from 8 a on
@@ -22,8 +22,8 @@ module _ (values : List ℕ) (count : ℕ) where
   abbrev pub halfOf : ℕ → ℕ
   halfOf h = bits (λ c. bit (getD values c 0) h) count
 
-  pub half-bit : (h c : ℕ) → bit (halfOf h) c ≡ bit (within values count c) h
-  unfolding within
+  pub half-bit : (h c : ℕ) → bit (halfOf h) c ≡ bit (recorded values count c) h
+  unfolding recorded
   half-bit h c = go (ltb c count) refl
     where
       go : (b : Bool) → ltb c count ≡ b → bit (halfOf h) c ≡ bit (if b then getD values c 0 else 0) h
@@ -36,12 +36,12 @@ module _ (values : List ℕ) (count : ℕ) where
   unfolding turnedByte
   byte-turned low high b v l h inside e = e ∙ bits-same _ _ 8 (λ i below. go (ltb b 8) refl (8 * (b % 8) + i))
     where
-      go : (t : Bool) → ltb b 8 ≡ t → (c : ℕ) → bit (if t then low else high) c ≡ bit (within values count c) (b / 8)
+      go : (t : Bool) → ltb b 8 ≡ t → (c : ℕ) → bit (if t then low else high) c ≡ bit (recorded values count c) (b / 8)
       go true t c =
           let small = ltb-true b 8 t in
           let first : 0 ≡ b / 8 = omega arith in
-          ap (λ (x : ℕ). bit x c) l ∙ half-bit 0 c ∙ ap (bit (within values count c)) first
+          ap (λ (x : ℕ). bit x c) l ∙ half-bit 0 c ∙ ap (bit (recorded values count c)) first
       go false t c =
           let large = ltb-false b 8 t in
           let second : 1 ≡ b / 8 = omega arith in
-          ap (λ (x : ℕ). bit x c) h ∙ half-bit 1 c ∙ ap (bit (within values count c)) second
+          ap (λ (x : ℕ). bit x c) h ∙ half-bit 1 c ∙ ap (bit (recorded values count c)) second
