@@ -22,7 +22,7 @@ module _ (values : List ℕ) (count : ℕ) where
   abbrev pub halfOf : ℕ → ℕ
   halfOf h = bits (λ c. bit (getD values c 0) h) count
 
-  pub half-bit : (h c : ℕ) → bit (halfOf h) c ≡ bit (recorded values count c) h
+  half-bit : (h c : ℕ) → bit (halfOf h) c ≡ bit (recorded values count c) h
   unfolding recorded
   half-bit h c = go (ltb c count) refl
     where
