@@ -12,12 +12,13 @@ use Rattle.model.proofs.Refusals.{first-left, first-right, first-both, unless-t
 use Rattle.session_answers.specs.Answers.{checkBits}
 use Rattle.session_answers.specs.Left.{leftAfter}
 use Rattle.session_answers.proofs.Left.{left-done}
+use Rattle.session_answers.proofs.Calls.{done-passed, passed-done}
 use Rattle.traces.specs.Turned.{valuesLength, blockLength, recorded, turned, turnedBack, unusedClear}
 use Rattle.traces.specs.Checks.{sizesCheck, valuesCheck, turnCheck, turnBackCheck}
 use Rattle.traces.proofs.Refusals.{Sizes, sizes-right, sizes-pass, values-legal}
 use Rattle.laws_traces.specs.Calls.{Turns, TurnsBack}
 use Rattle.laws_traces.proofs.RoundTrip.{turned-length, turned-clear, turned-within, forth-and-back, back-length, back-small, back-and-forth}
-use Rattle.laws_traces.proofs.Refusals.{turn-numbered, back-numbered, done-passed, passed-done, check-within}
+use Rattle.laws_traces.proofs.Refusals.{turn-numbered, back-numbered, check-within}
 
 -- lengths and count of one call serve the other
 sizes-again : (values block others last : List ℕ) (count : ℕ) → sizesCheck values block count ≡ pass

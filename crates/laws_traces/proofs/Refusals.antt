@@ -1,20 +1,16 @@
 -- What the two calls may refuse by: 40, 52 and, when turning, 42, so that an answer of 0 is a call that was done; and what 42 looks at.
-use Prim.Native.Nat.{ℕ, _≤_, _<_}
-use mathlib.Core.Path.{_≡_, refl, ap, ap₂}
+use Prim.Native.Nat.{ℕ, _<_}
+use mathlib.Core.Path.{_≡_, ap, ap₂}
 use mathlib.Core.List.{List, [], _∷_}
 use mathlib.Core.Logic.{⊎-elim}
 use native.Mathlib.Omega.{arith}
 use lib.Dec.{leb}
 use lib.ListN.{length, getD}
-use Rattle.model.specs.Refusal.{Check, pass, fail, first, unless}
+use Rattle.model.specs.Refusal.{first, unless}
 use Rattle.model.specs.Session.{sameLengths}
 use Rattle.model.proofs.Refusals.{first-fail, unless-false, below-fail, below-same}
-use Rattle.session_answers.specs.Answers.{answerBits, checkBits}
+use Rattle.session_answers.proofs.Calls.{Numbered}
 use Rattle.traces.specs.Checks.{turnFixed, countRight, sizesCheck, valuesCheck, turnCheck, turnBackCheck}
-
--- a check that refuses by numbers from 40 on
-abbrev Numbered : Check → Type 0
-Numbered check = (number returned : ℕ) → check ≡ fail number returned → 40 ≤ number
 
 module _ (values block : List ℕ) (count : ℕ) where
   sizes-numbered : Numbered (sizesCheck values block count)
@@ -31,16 +27,6 @@ module _ (values block : List ℕ) (count : ℕ) where
   unfolding turnBackCheck
   back-numbered number returned e =
       ⊎-elim (sizes-numbered number returned) (λ p. let u = unless-false _ 52 0 (p .1) .1 in omega arith) (first-fail _ _ e)
-
--- the bits 0 are those of a check that passed
-pub done-passed : (check : Check) → Numbered check → checkBits check ≡ 0 → check ≡ pass
-unfolding checkBits answerBits
-done-passed pass numbered e = refl
-done-passed (fail number returned) numbered e = let n = numbered number returned refl in absurd (omega arith)
-
-pub passed-done : (check : Check) → check ≡ pass → checkBits check ≡ 0
-unfolding checkBits answerBits
-passed-done check p = rw p
 
 -- values past the count are not judged
 pub check-within : (values others block : List ℕ) (count : ℕ) → length values ≡ length others

@@ -18,16 +18,12 @@ use Rattle.fields.specs.declared.Field.the-variants.{Number}
 use Rattle.fields.specs.declared.Line.the-variants.{Next}
 use Rattle.writing.specs.Text.{fieldText, lineText}
 use Rattle.laws_writing.proofs.Spelling.{right-text, text-right, Readable}
-use Rattle.writing.proofs.Writing.{length-fields}
+use Rattle.writing.proofs.Writing.{length-text, length-fields}
 
 -- numbers that a field can show
 pub data Small : List ℕ → Type 0 where
   none : Small []
   more : {n : ℕ} {ns : List ℕ} → n ≤ 65535 → Small ns → Small (n ∷ ns)
-
-length-text : (n : ℕ) → length (fieldText n) ≡ 6
-unfolding fieldText
-length-text n = refl
 
 columns-written : (pre post : List ℕ) (n at : ℕ) → at ≡ length pre → columnsAt (pre ++ (fieldText n ++ post)) at ≡ fieldText n
 columns-written pre post n at e =

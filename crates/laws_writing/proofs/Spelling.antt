@@ -3,11 +3,11 @@ use Prim.Native.Nat.{ℕ, zero, suc, _+_, _-_, _*_, _/_, _%_, _<_, _≤_}
 use mathlib.Core.Path.{_≡_, refl, sym, _∙_, ap, subst₂}
 use mathlib.Core.Bool.{Bool, true, false, true≢false}
 use mathlib.Core.Logic.{_≢_}
-use mathlib.Core.List.{List, [], _∷_, _++_}
+use mathlib.Core.List.{List, [], _∷_, _++_, map}
 use native.Mathlib.Omega.{arith}
 use native.Mathlib.Nat.{not-le-of-lt}
 use lib.Dec.{eqb, leb, ltb}
-use lib.ListN.{length, replicate, length-append, length-replicate}
+use lib.ListN.{length, getD, replicate, length-append, length-replicate}
 use borrow.Author.Tests.{eqb-true, eqb-false, le-leb, lt-leb, ne-eqb, eq-eqb, ltb-true, ltb-false, not-true}
 use Rattle.logic.specs.Test.{_or_, every}
 use Rattle.logic.specs.Choice.{if_then_else_}
@@ -250,3 +250,21 @@ text-right n l =
     let m = named 5 n l (unfold tens in omega arith) in
     let t : padded (m .digits) ≡ fieldText n = numeral-text (m .digits) (m .short) (m .form) ∙ ap fieldText (m .is) in
     subst₂ Readable (m .is) t (padded-right (m .digits) (m .form) (m .short))
+
+-- The columns of a number are spaces and digits, and so no line end
+column-printed : (n w : ℕ) → 32 ≤ columnOf n w
+unfolding columnOf
+column-printed n w = go (leb w n or eqb w 1)
+  where
+    go : (b : Bool) → 32 ≤ (if b then 48 + n / w % 10 else 32)
+    go true = omega arith
+    go false = omega arith
+
+pub text-printed : (n i : ℕ) → i < 6 → 32 ≤ getD (fieldText n) i 0
+unfolding fieldText
+text-printed n i l = go (100000 ∷ 10000 ∷ 1000 ∷ 100 ∷ 10 ∷ 1 ∷ []) i l
+  where
+    go : (ws : List ℕ) (i : ℕ) → i < length ws → 32 ≤ getD (map (columnOf n) ws) i 0
+    go [] i l = absurd (omega arith)
+    go (w ∷ ws) zero l = column-printed n w
+    go (w ∷ ws) (suc i) l = go ws i (omega arith)

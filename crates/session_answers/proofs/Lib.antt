@@ -1,2 +1,3 @@
 pub mod Bits
 pub mod Left
+pub mod Calls

@@ -2,4 +2,3 @@ pub mod Bits
 pub mod Refusals
 pub mod Block
 pub mod Unused
-pub mod Calls

@@ -38,6 +38,10 @@ unfolding flatMap
 flatMap-append f [] ys = refl
 flatMap-append f (x ∷ xs) ys = ap (λ (r : List ℕ). f x ++ r) (flatMap-append f xs ys) ∙ sym (append-assoc (f x) (flatMap f xs) (flatMap f ys))
 
+pub length-text : (n : ℕ) → length (fieldText n) ≡ 6
+unfolding fieldText
+length-text n = refl
+
 pub length-fields : (xs : List ℕ) → length (flatMap fieldText xs) ≡ 6 * length xs
 unfolding flatMap fieldText
 length-fields [] = refl
