@@ -11,6 +11,8 @@ ghost use Rattle.session_opening.specs.Opened.{openingCheckLent, leftBy};
 ghost use Rattle.session_calls.specs.Reply.{buffersOf, reply};
 ghost use Rattle.traces.specs.Turned.{turned, turnedBack};
 ghost use Rattle.traces.specs.Checks.{turnCheck, turnBackCheck};
+ghost use Rattle.charts.specs.Page.{pageText, printedOn};
+ghost use Rattle.charts.specs.Checks.{chartCheck};
 
 // Checks three files, and writes nothing.
 #[no_mangle]
@@ -107,4 +109,20 @@ pub extern "C" fn cavundir_turn_back(block: &[u8], values: &mut [u8], count: u32
     ensures values { λ _. ⌜ now (values .exit) ≡ leftAfter (turnBackCheck (now (block .entry)) (now (values .entry)) count) (turnedBack (now (block .entry)) count) (now (values .entry)) ⌝ }
 {
     traces::turn_back(block, values, count)
+}
+
+// Prints a chart page into a buffer.
+#[no_mangle]
+pub extern "C" fn cavundir_chart(
+    signals: &[u8],
+    values: &[u8],
+    page: &mut [u8],
+    count: u32,
+    first: u32,
+    cycles: u32,
+) -> u64
+    ensures answer { λ r. ⌜ r ≡ checkBits (chartCheck (now (signals .entry)) (now (values .entry)) (now (page .entry)) count first cycles) ⌝ }
+    ensures page { λ _. ⌜ now (page .exit) ≡ leftAfter (chartCheck (now (signals .entry)) (now (values .entry)) (now (page .entry)) count first cycles) (printedOn (now (page .entry)) (pageText (now (signals .entry)) (now (values .entry)) count first cycles)) (now (page .entry)) ⌝ }
+{
+    charts::chart(signals, values, page, count, first, cycles)
 }
