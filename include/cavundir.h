@@ -3,8 +3,8 @@
  * A session lives in three working buffers that the panel owns and lends to every call on it: panel, program and memory.
  * Each has one fixed length. The calls keep nothing else: a session is its buffers, and a copy of them is a session too.
  *
- * Two calls are for recorders, and take none of these buffers: cavundir_turn stores the values of a signal in a block of
- * two bits a cycle, and cavundir_turn_back gives them back.
+ * Three calls are for recorders, and take none of these buffers: cavundir_turn stores the values of a signal in a block
+ * of two bits a cycle, cavundir_turn_back gives them back, and cavundir_chart prints the values of signals on a page.
  *
  * A buffer is handed over as a pointer and a length in bytes. The buffers of one call must not overlap. A null pointer
  * is allowed with length 0; as NET, MOD or STIM that is a file that is absent. The bytes of a file are only read.
@@ -29,8 +29,8 @@ extern "C" {
 #endif
 
 /* The version of this header and of its archive: 100 for each whole number, and 1 for each after the point. */
-#define CAVUNDIR_VERSION 101
-#define CAVUNDIR_VERSION_TEXT "1.1"
+#define CAVUNDIR_VERSION 102
+#define CAVUNDIR_VERSION_TEXT "1.2"
 
 /* The lengths of the working buffers. With any other length a call is refused. */
 #define CAVUNDIR_PANEL_BYTES 40970
@@ -41,6 +41,17 @@ extern "C" {
  * each. With any other length a call is refused. */
 #define CAVUNDIR_TRACE_VALUES_BYTES 64
 #define CAVUNDIR_TRACE_BLOCK_BYTES 16
+
+/* The most signals and cycles of a chart page, and the bytes of its line: 80 columns and the line end. */
+#define CAVUNDIR_CHART_SIGNALS 56
+#define CAVUNDIR_CHART_CYCLES 72
+#define CAVUNDIR_CHART_LINE 81
+
+/* The lengths of the buffers for a chart: two bytes for the number of each of up to 56 signals, a row of 72 values for
+ * each, and a page of a first line and one for each. With any other length a call is refused. */
+#define CAVUNDIR_CHART_SIGNALS_BYTES 112
+#define CAVUNDIR_CHART_VALUES_BYTES 4032
+#define CAVUNDIR_CHART_PAGE_BYTES 4617
 
 /* The numbers of the refusals, and what each returns. Lines are counted from 1. cavundir_text says each in a sentence. */
 enum cavundir_number {
@@ -64,12 +75,18 @@ enum cavundir_number {
     /* by any call but the check */
     CAVUNDIR_LENGTH = 40,           /* 0: a buffer that has a fixed length is lent with another */
 
-    /* by set, watch, read and run; 42 also by turn */
-    CAVUNDIR_SIGNAL = 41,           /* the signal given: 0 or above N, or set on a gate */
-    CAVUNDIR_VALUE = 42,            /* the value given: above 3, or a mask above 15; of turn: the first above 3 */
+    /* by set, watch, read and run; 41 also by chart, 42 also by turn and chart */
+    CAVUNDIR_SIGNAL = 41,           /* the signal given: 0 or above N, or set on a gate; of chart: the first chosen that
+                                       is 0 or above 4096 */
+    CAVUNDIR_VALUE = 42,            /* the value given: above 3, or a mask above 15; of turn and chart: the first
+                                       recorded above 3 */
     CAVUNDIR_CYCLES = 43,           /* the cycles finished: these and the cycles given exceed 65535 */
     CAVUNDIR_DAMAGED = 44,          /* 0: no session is in the buffers, a number in them is out of its range, or a byte
                                        that holds no number is not 0; whether the tables belong together is not judged */
+
+    /* by chart */
+    CAVUNDIR_PAGE = 46,             /* 0: the signal count is 0 or above 56, the cycle count 0 or above 72, or the last
+                                       cycle above 65535 */
 
     /* by turn and turn_back */
     CAVUNDIR_BLOCK = 52             /* 0: the cycle count is 0 or above 64; by turn_back too: an unused bit is set */
@@ -135,6 +152,21 @@ uint64_t cavundir_turn_back(const uint8_t *block, size_t block_bytes,
                             uint8_t *values, size_t values_bytes,
                             uint32_t count);
 
+/* Prints recorded values as a chart page: a line with the first and the last cycle, six columns each, then a line for
+ * each chosen signal, in the order chosen: its number in six columns, two spaces, and 0, 1, U or Z for each cycle. Spaces
+ * fill every line to 80 columns, and a line end follows. A page has 1 to 56 signals and 1 to 72 cycles, the last at most
+ * 65535; the first may be 0.
+ *
+ * Chosen signal k, from 0, has its number in bytes 2 * k and 2 * k + 1 of `signals`, the low one first, and its value in
+ * cycle first_cycle + c in byte 72 * k + c of `values`, whatever the counts are. What stands past the counts is not read.
+ *
+ * The text is the first 81 * (signal_count + 1) bytes of the page. Those after it keep their values, and a refused call
+ * changes none. */
+uint64_t cavundir_chart(const uint8_t *signals, size_t signals_bytes,
+                        const uint8_t *values, size_t values_bytes,
+                        uint8_t *page, size_t page_bytes,
+                        uint32_t signal_count, uint32_t first_cycle, uint32_t cycle_count);
+
 /* The refusal's number, one of enum cavundir_number; 0 where the call was not refused. */
 static inline unsigned cavundir_refusal(uint64_t answer)
 {
@@ -180,15 +212,17 @@ static inline const char *cavundir_text(unsigned number)
     case CAVUNDIR_STIM_NO_INPUT:
         return "STIM: the line names a signal that is no input, at a time after 0.";
     case CAVUNDIR_LENGTH:
-        return "A working buffer, or one for turning, has a wrong length.";
+        return "A working buffer, or one for turning or for a chart, has a wrong length.";
     case CAVUNDIR_SIGNAL:
-        return "The signal is 0 or above N, or it is a gate and was to be set.";
+        return "The signal is 0 or above N, on a chart above 4096, or it is a gate and was to be set.";
     case CAVUNDIR_VALUE:
         return "The value, or a recorded one, is above 3, or the mask above 15.";
     case CAVUNDIR_CYCLES:
         return "The cycles finished and those asked for are above 65535 together.";
     case CAVUNDIR_DAMAGED:
         return "The working buffers hold no session, or a number in them is out of its range.";
+    case CAVUNDIR_PAGE:
+        return "The signal count of a page is 0 or above 56, the cycle count 0 or above 72, or a cycle above 65535.";
     case CAVUNDIR_BLOCK:
         return "The cycle count of a block is 0 or above 64, or a bit past it is set.";
     default:
