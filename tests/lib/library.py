@@ -93,7 +93,7 @@ def panel_calls(library):
     """The panel's calls by name. They take a pointer and a length for each buffer, then the numbers."""
     calls = {}
     for name, buffers, numbers in (("check_files", 3, 0), ("open", 6, 0), ("set", 3, 2), ("watch", 3, 2), ("read", 3, 1),
-                                   ("run", 3, 1), ("turn", 2, 1), ("turn_back", 2, 1)):
+                                   ("run", 3, 1), ("turn", 2, 1), ("turn_back", 2, 1), ("chart", 3, 3)):
         call = calls[name] = getattr(library, f"cavundir_{name}")
         call.argtypes = [ctypes.c_void_p, ctypes.c_size_t] * buffers + [ctypes.c_uint32] * numbers
         call.restype = ctypes.c_uint64
