@@ -24,7 +24,7 @@ struct call {
     const char *line; /* as CALLS has it, for messages */
     bool wrong;       /* `!`: a buffer of a wrong length is lent */
     char name[8];
-    uint32_t numbers[2];
+    uint32_t numbers[3];
 };
 
 /* A block of exactly that length, so that a tool that watches memory sees every step beyond it. */

@@ -3,9 +3,9 @@
  * Each buffer lent ends at such a page, and in a second round begins after one; one that is lent to read stands on pages
  * that cannot be written. A buffer has 0 bytes, 1, one too few, as many as it should or one too many, each length of one
  * with each of the others; NET, MOD and STIM are those of FOLDER, cut or a byte longer. Answer and bytes must be those of
- * the same call on ordinary memory; with a wrong length that is 40. Turning is tried too with the values past the count on
- * a guarded page. Prints how many calls were made. Where a call touches what it was not lent, it says which byte, and exits
- * with 1.
+ * the same call on ordinary memory; with a wrong length that is 40. Turning and charts are tried too with what stands past
+ * the counts on a guarded page. Prints how many calls were made. Where a call touches what it was not lent, it says which
+ * byte, and exits with 1.
  */
 #define _GNU_SOURCE
 #include <signal.h>
@@ -14,9 +14,33 @@
 
 #include "calls.h"
 
-/* the files first, as the opening takes them; last the buffers of turning */
-enum { VALUES = FILES + BUFFERS, BLOCK, LENT };
+/* the files first, as the opening takes them; last the buffers of turning and of charts */
+enum { SESSION_END = FILES + BUFFERS };
+enum { TRACE_VALUES = SESSION_END, TRACE_BLOCK, CHART_SIGNALS, CHART_VALUES, CHART_PAGE, LENT };
 enum { VARIED = 5, SLACK = 0xC3, DAMAGED = 64 };
+
+/* the buffers that are no session's, each with its one length */
+static const struct {
+    const char *name;
+    size_t length;
+} others[LENT - SESSION_END] = {
+    {"values", CAVUNDIR_TRACE_VALUES_BYTES},
+    {"block", CAVUNDIR_TRACE_BLOCK_BYTES},
+    {"signals", CAVUNDIR_CHART_SIGNALS_BYTES},
+    {"recorded values", CAVUNDIR_CHART_VALUES_BYTES},
+    {"page", CAVUNDIR_CHART_PAGE_BYTES},
+};
+
+/* the calls that take no session: their buffers, from the first to the one after the last, and the one written to */
+static const struct recorder {
+    const char *name;
+    int first, end, written;
+} recorders[] = {
+    {"turn", TRACE_VALUES, CHART_SIGNALS, TRACE_BLOCK},
+    {"back", TRACE_VALUES, CHART_SIGNALS, TRACE_VALUES},
+    {"chart", CHART_SIGNALS, LENT, CHART_PAGE},
+};
+enum { RECORDERS = sizeof recorders / sizeof *recorders };
 
 /* A page that nobody may touch, the pages with the buffer, and another such page. */
 struct guarded {
@@ -35,59 +59,70 @@ static unsigned long made;
 
 static const char *name_of(int which)
 {
-    if (which >= VALUES)
-        return which == VALUES ? "values" : "block";
+    if (which >= SESSION_END)
+        return others[which - SESSION_END].name;
     return which < FILES ? file_names[which] : buffer_names[which - FILES];
 }
 
 /* The one length of a buffer that is no file. */
 static size_t length_of(int which)
 {
-    if (which >= VALUES)
-        return which == VALUES ? CAVUNDIR_TRACE_VALUES_BYTES : CAVUNDIR_TRACE_BLOCK_BYTES;
-    return lengths[which - FILES];
+    return which >= SESSION_END ? others[which - SESSION_END].length : lengths[which - FILES];
 }
 
-static bool turns(const struct call *call)
+/* A call's row of the calls that take no session; none for the others. */
+static const struct recorder *recorder_of(const struct call *call)
 {
-    return !strcmp(call->name, "turn") || !strcmp(call->name, "back");
+    for (int r = 0; r < RECORDERS; r++)
+        if (!strcmp(call->name, recorders[r].name))
+            return &recorders[r];
+    return NULL;
 }
 
 /* The first of the buffers that a call takes, the opening alone taking files, and the one after the last. */
 static int first_of(const struct call *call)
 {
-    if (turns(call))
-        return VALUES;
+    const struct recorder *recorder = recorder_of(call);
+    if (recorder)
+        return recorder->first;
     return strcmp(call->name, "open") ? FILES : 0;
 }
 
 static int end_of(const struct call *call)
 {
-    return turns(call) ? LENT : VALUES;
+    const struct recorder *recorder = recorder_of(call);
+    return recorder ? recorder->end : SESSION_END;
 }
 
 /* Whether a call that was not refused may write to a buffer. */
 static bool may_write(const struct call *call, int which)
 {
-    if (turns(call))
-        return which == (strcmp(call->name, "turn") ? VALUES : BLOCK);
+    const struct recorder *recorder = recorder_of(call);
+    if (recorder)
+        return which == recorder->written;
     return which >= FILES && writes(call, which - FILES);
 }
 
 static uint64_t make_any(const struct call *call, const struct bytes on[LENT])
 {
-    const struct bytes values = on[VALUES], block = on[BLOCK];
-    if (!turns(call))
-        return make(call, on, on + FILES);
+    const struct bytes values = on[TRACE_VALUES], block = on[TRACE_BLOCK];
+    const struct bytes chosen = on[CHART_SIGNALS], recorded = on[CHART_VALUES], chart = on[CHART_PAGE];
+    const uint32_t *numbers = call->numbers;
     if (!strcmp(call->name, "turn"))
-        return cavundir_turn(values.at, values.length, block.at, block.length, call->numbers[0]);
-    return cavundir_turn_back(block.at, block.length, values.at, values.length, call->numbers[0]);
+        return cavundir_turn(values.at, values.length, block.at, block.length, numbers[0]);
+    if (!strcmp(call->name, "back"))
+        return cavundir_turn_back(block.at, block.length, values.at, values.length, numbers[0]);
+    if (!strcmp(call->name, "chart"))
+        return cavundir_chart(chosen.at, chosen.length, recorded.at, recorded.length, chart.at, chart.length, numbers[0],
+                              numbers[1], numbers[2]);
+    return make(call, on, on + FILES);
 }
 
 /* Says which call it was; what is wrong with it follows. */
 static void say_call(void)
 {
-    fprintf(stderr, "%s: %s %u %u, lent", folder, current->name, current->numbers[0], current->numbers[1]);
+    const uint32_t *numbers = current->numbers;
+    fprintf(stderr, "%s: %s %u %u %u, lent", folder, current->name, numbers[0], numbers[1], numbers[2]);
     for (int l = first_of(current), end = end_of(current); l < end; l++)
         fprintf(stderr, " %s of %zu%s", name_of(l), lent[l].buffer.length, l < end - 1 ? "," : "");
     fprintf(stderr, " bytes, %s: ", where);
@@ -129,6 +164,12 @@ static struct guarded guard(struct bytes from)
     return (struct guarded){map, inner, buffer};
 }
 
+static void release(int which)
+{
+    munmap(lent[which].map, lent[which].inner + 2 * page);
+    lent[which].map = NULL;
+}
+
 /* The bytes must be as expected, and those that share a page with them as they were. */
 static void check(int which, struct bytes expected)
 {
@@ -156,8 +197,7 @@ static void make_guarded(const struct call *call, const struct bytes from[LENT],
         fail("its answer is not that on ordinary memory", "");
     for (int l = first_of(call); l < end_of(call); l++) {
         check(l, after[l]);
-        munmap(lent[l].map, lent[l].inner + 2 * page);
-        lent[l].map = NULL;
+        release(l);
     }
     made++;
 }
@@ -191,9 +231,11 @@ static void try(const struct call *call, const struct bytes from[LENT])
 static void try_lengths(const struct call *call, const struct bytes from[LENT], int first)
 {
     struct bytes varied[LENT];
-    int end = turns(call) ? first + 2 : first + 3;
+    int end = first + 3 < end_of(call) ? first + 3 : end_of(call), choices = 1;
+    for (int l = first; l < end; l++)
+        choices *= VARIED;
     memcpy(varied, from, sizeof varied);
-    for (int choice = 0; choice < VARIED * VARIED * (turns(call) ? 1 : VARIED); choice++) {
+    for (int choice = 0; choice < choices; choice++) {
         for (int l = first, rest = choice; l < end; l++, rest /= VARIED) {
             size_t whole = from[l].length;
             varied[l].length = (size_t[]){0, 1, whole ? whole - 1 : 0, whole, whole + 1}[rest % VARIED];
@@ -230,7 +272,7 @@ enum { SESSION_CALLS = sizeof session_calls / sizeof *session_calls };
 /* The calls on buffers with one byte changed to 255, which most ranges do not have. */
 static void try_damaged(struct bytes from[LENT])
 {
-    for (int b = FILES; b < VALUES; b++)
+    for (int b = FILES; b < SESSION_END; b++)
         for (int at = 0; at < DAMAGED; at++) {
             uint8_t kept = from[b].at[at];
             from[b].at[at] = 255;
@@ -240,38 +282,101 @@ static void try_damaged(struct bytes from[LENT])
         }
 }
 
-/* Turning with the values past the count where nobody may touch them: only values within the count are read. */
-static void turn_within(const struct call *call, const struct bytes from[LENT])
+/* How many bytes of a buffer turning or a chart reads where it is not refused. */
+static size_t within(const struct call *call, int which)
 {
-    struct bytes within = {from[VALUES].at, call->numbers[0]}, buffers[LENT] = {0};
+    const uint32_t *numbers = call->numbers;
+    if (which == TRACE_VALUES)
+        return numbers[0];
+    if (which == CHART_SIGNALS)
+        return 2 * (size_t)numbers[0];
+    if (which == CHART_VALUES) /* to the last cycle of the last row */
+        return CAVUNDIR_CHART_CYCLES * (size_t)(numbers[0] - 1) + numbers[2];
+    return length_of(which);
+}
+
+static struct bytes filled(size_t length)
+{
+    struct bytes made = block(length);
+    memset(made.at, SLACK, length);
+    return made;
+}
+
+/* A call that is not refused, with what stands past its counts where nobody may touch it: only what is within is read. */
+static void try_within(const struct call *call, const struct bytes from[LENT])
+{
+    const int written = recorder_of(call)->written;
+    struct bytes wanted = filled(length_of(written)), found = filled(length_of(written)), buffers[LENT];
+    memcpy(buffers, from, sizeof buffers);
+    buffers[written] = wanted;
+    make_any(call, buffers);
+
     current = call;
     begins = false;
-    where = "with the values past the count on a guarded page";
-    lent[VALUES] = guard(within);
-    lent[BLOCK].buffer = buffers[BLOCK] = block(from[BLOCK].length);
-    buffers[VALUES] = (struct bytes){lent[VALUES].buffer.at, from[VALUES].length};
-    if (make_any(call, buffers) != 0 || memcmp(buffers[BLOCK].at, from[BLOCK].at, from[BLOCK].length))
-        fail("its answer or its block is not that on ordinary memory", "");
-    free(buffers[BLOCK].at);
-    munmap(lent[VALUES].map, lent[VALUES].inner + 2 * page);
-    lent[VALUES].map = NULL;
+    where = "with what is past the counts on a guarded page";
+    for (int l = first_of(call); l < end_of(call); l++)
+        if (l != written) {
+            lent[l] = guard((struct bytes){from[l].at, within(call, l)});
+            buffers[l].at = lent[l].buffer.at;
+        }
+    buffers[written] = lent[written].buffer = found;
+    if (make_any(call, buffers) != 0 || memcmp(found.at, wanted.at, wanted.length))
+        fail("its answer or what it writes is not that on ordinary memory", "");
+    for (int l = first_of(call); l < end_of(call); l++)
+        if (l != written)
+            release(l);
+    free(wanted.at);
+    free(found.at);
     made++;
 }
 
 /* Both turning calls with every count from 0 to one too many, on values and the block of them, and with every length. */
 static void try_turning(const struct bytes from[LENT])
 {
-    for (uint32_t count = 0; count <= from[VALUES].length + 1; count++) {
+    for (uint32_t count = 0; count <= from[TRACE_VALUES].length + 1; count++) {
         const struct call turn = {.name = "turn", .numbers = {count}}, back = {.name = "back", .numbers = {count}};
         if (make_any(&turn, from) == 0)
-            turn_within(&turn, from);
+            try_within(&turn, from);
         try(&turn, from);
         try(&back, from);
         try(&(struct call){.name = "back", .numbers = {count - 1}}, from); /* an unused bit is set, most often */
         if (count % 32 < 2) {
-            try_lengths(&turn, from, VALUES);
-            try_lengths(&back, from, VALUES);
+            try_lengths(&turn, from, TRACE_VALUES);
+            try_lengths(&back, from, TRACE_VALUES);
         }
+    }
+}
+
+/* A chart whose last cycle is the last of a session. */
+static void try_chart(uint32_t signal_count, uint32_t cycle_count, const struct bytes from[LENT])
+{
+    const struct call chart = {.name = "chart", .numbers = {signal_count, 65536 - cycle_count, cycle_count}};
+    if (make_any(&chart, from) == 0)
+        try_within(&chart, from);
+    try(&chart, from);
+}
+
+/* Charts with every count from 0 to one too many, beside the least and the most of the other; with every length; and with
+ * no signal's number, or no value, at the end of the buffer, where fewer signals and cycles leave it alone. */
+static void try_charts(const struct bytes from[LENT])
+{
+    enum { SIGNALS = CAVUNDIR_CHART_SIGNALS, CYCLES = CAVUNDIR_CHART_CYCLES };
+    for (uint32_t count = 0; count <= SIGNALS + 1; count++) {
+        try_chart(count, 1, from);
+        try_chart(count, CYCLES, from);
+    }
+    for (uint32_t count = 0; count <= CYCLES + 1; count++) {
+        try_chart(1, count, from);
+        try_chart(SIGNALS, count, from);
+    }
+    try(&(struct call){.name = "chart", .numbers = {SIGNALS, UINT32_MAX, CYCLES}}, from);
+    try_lengths(&(struct call){.name = "chart", .numbers = {SIGNALS, 0, CYCLES}}, from, CHART_SIGNALS);
+    for (int l = CHART_SIGNALS; l <= CHART_VALUES; l++) {
+        uint8_t *last = from[l].at + from[l].length - 1, kept = *last;
+        *last = 255;
+        try_chart(SIGNALS, CYCLES, from);
+        try_chart(SIGNALS - 1, CYCLES - 1, from);
+        *last = kept;
     }
 }
 
@@ -283,6 +388,31 @@ static struct bytes padded(struct bytes from)
     if (from.length)
         memcpy(made.at, from.at, from.length);
     return (struct bytes){made.at, from.length};
+}
+
+/* What byte k of a buffer that is no file has at first. */
+static uint8_t byte_of(int which, size_t k)
+{
+    if (which < SESSION_END)
+        return 255;
+    if (which == TRACE_VALUES || which == CHART_VALUES)
+        return 3 - k % 4;
+    if (which == CHART_SIGNALS) /* 3841 and on, the low byte first */
+        return k % 2 ? 15 : 1 + k / 2;
+    return 0;
+}
+
+/* The files of the folder, and the other buffers with a byte more than their length says. */
+static void prepare(struct bytes from[LENT])
+{
+    for (int f = 0; f < FILES; f++)
+        from[f] = padded(read_file(folder, file_names[f]));
+    for (int l = FILES; l < LENT; l++) {
+        from[l] = block(length_of(l) + 1);
+        for (size_t k = 0; k <= length_of(l); k++)
+            from[l].at[k] = byte_of(l, k);
+        from[l].length = length_of(l);
+    }
 }
 
 int main(int count, char **words)
@@ -298,20 +428,9 @@ int main(int count, char **words)
     sigaction(SIGBUS, &action, NULL);
 
     struct bytes from[LENT];
-    for (int f = 0; f < FILES; f++)
-        from[f] = padded(read_file(folder, file_names[f]));
-    for (int b = 0; b < BUFFERS; b++) {
-        from[FILES + b] = block(lengths[b] + 1);
-        memset(from[FILES + b].at, 0xFF, lengths[b] + 1);
-        from[FILES + b].length = lengths[b];
-    }
-    for (int l = VALUES; l < LENT; l++) {
-        from[l] = block(length_of(l) + 1);
-        for (size_t k = 0; k <= length_of(l); k++)
-            from[l].at[k] = l == VALUES ? 3 - k % 4 : 0;
-        from[l].length = length_of(l);
-    }
+    prepare(from);
     try_turning(from);
+    try_charts(from);
     const struct call opening = {.name = "open"};
     try_lengths(&opening, from, 0);
     try_lengths(&opening, from, FILES);
