@@ -16,8 +16,11 @@ static uint8_t panel[CAVUNDIR_PANEL_BYTES], program[CAVUNDIR_PROGRAM_BYTES], mem
 
 /* what the next call is given, and what it answered */
 static size_t program_bytes = sizeof program, block_bytes = CAVUNDIR_TRACE_BLOCK_BYTES;
+static size_t page_bytes = CAVUNDIR_CHART_PAGE_BYTES;
 static uint32_t signal_given, number_given;
+static uint32_t signals_given, first_given, cycles_given; /* of a chart */
 static uint8_t values[CAVUNDIR_TRACE_VALUES_BYTES], block[CAVUNDIR_TRACE_BLOCK_BYTES];
+static uint8_t chosen[CAVUNDIR_CHART_SIGNALS_BYTES], recorded[CAVUNDIR_CHART_VALUES_BYTES], page[CAVUNDIR_CHART_PAGE_BYTES];
 static uint64_t answer;
 
 #define GIVEN files[NET], lengths[NET], files[MOD], lengths[MOD], files[STIM], lengths[STIM]
@@ -31,14 +34,20 @@ static void reading(void) { answer = cavundir_read(SESSION, signal_given); }
 static void running(void) { answer = cavundir_run(SESSION, number_given); }
 static void turning(void) { answer = cavundir_turn(values, sizeof values, block, block_bytes, number_given); }
 static void turning_back(void) { answer = cavundir_turn_back(block, block_bytes, values, sizeof values, number_given); }
+static void charting(void)
+{
+    answer = cavundir_chart(chosen, sizeof chosen, recorded, sizeof recorded, page, page_bytes, signals_given, first_given,
+                            cycles_given);
+}
 
 static struct call {
     const char *name;
     void (*make)(void);
     size_t most;
-} calls[] = {{"check_files", checking, 0}, {"open", opening, 0}, {"set", setting, 0},   {"watch", watching, 0},
-             {"read", reading, 0},         {"run", running, 0},  {"turn", turning, 0}, {"turn_back", turning_back, 0}};
-enum { CHECK_FILES, OPEN, SET, WATCH, READ, RUN, TURN, TURN_BACK, CALLS };
+} calls[] = {{"check_files", checking, 0}, {"open", opening, 0},           {"set", setting, 0},
+             {"watch", watching, 0},       {"read", reading, 0},           {"run", running, 0},
+             {"turn", turning, 0},         {"turn_back", turning_back, 0}, {"chart", charting, 0}};
+enum { CHECK_FILES, OPEN, SET, WATCH, READ, RUN, TURN, TURN_BACK, CHART, CALLS };
 
 static void (*make)(void);
 static uint8_t *from;
@@ -100,6 +109,33 @@ static void measure_turning(uint8_t value)
     block_bytes = sizeof block;
 }
 
+static void measure_chart(uint32_t signals, uint32_t first, uint32_t cycles)
+{
+    signals_given = signals;
+    first_given = first;
+    cycles_given = cycles;
+    measure(CHART);
+}
+
+/* Charts with every count of signals and of cycles, beside the least and the most of the other, and counts that are refused
+ * by 46; then by 40. The bytes make signals and values, or are refused by 41 or 42. */
+static void measure_charts(uint8_t signal_byte, uint8_t value)
+{
+    memset(chosen, signal_byte, sizeof chosen);
+    memset(recorded, value, sizeof recorded);
+    for (uint32_t count = 0; count <= CAVUNDIR_CHART_SIGNALS + 1; count++) {
+        measure_chart(count, 0, 1);
+        measure_chart(count, 65536 - CAVUNDIR_CHART_CYCLES, CAVUNDIR_CHART_CYCLES);
+    }
+    for (uint32_t count = 0; count <= CAVUNDIR_CHART_CYCLES + 1; count++) {
+        measure_chart(1, 0, count);
+        measure_chart(CAVUNDIR_CHART_SIGNALS, 65536 - count, count);
+    }
+    page_bytes = 0;
+    measure_chart(1, 0, 1);
+    page_bytes = sizeof page;
+}
+
 static void read_files(const char *folder)
 {
     for (int k = 0; k < FILES; k++) {
@@ -130,6 +166,9 @@ int main(int count, char **folders)
     }
     measure_turning(3);
     measure_turning(4);
+    measure_charts(1, 3);
+    measure_charts(1, 4);
+    measure_charts(255, 3);
     if (opened == 0) {
         fprintf(stderr, "bench: FAILED: no files were accepted\n");
         return 1;
