@@ -11,7 +11,7 @@ ghost use Rattle.session_opening.specs.Opened.{openingCheckLent, leftBy};
 ghost use Rattle.session_calls.specs.Reply.{buffersOf, reply};
 ghost use Rattle.traces.specs.Turned.{turned, turnedBack};
 ghost use Rattle.traces.specs.Checks.{turnCheck, turnBackCheck};
-ghost use Rattle.charts.specs.Page.{pageText, printedOn};
+ghost use Rattle.charts.specs.Text.{pageText, printedOn};
 ghost use Rattle.charts.specs.Checks.{chartCheck};
 
 // Checks three files, and writes nothing.

@@ -11,7 +11,8 @@ use Rattle.logic.proofs.Listed.{listed-length, listed-more}
 use Rattle.writing.specs.Text.{fieldText}
 use Rattle.writing.proofs.Writing.{length-text, sets-append}
 use Rattle.model.specs.Listing.{joined}
-use Rattle.charts.specs.Page.{pageCycles, lineColumns, lineBytes, chosen, charted, glyph, spaces, headText, rowText, chartRow, lastCycle, pageText, printedOn}
+use Rattle.charts.specs.Page.{pageCycles, lineColumns, lineBytes, chosen, charted, glyph, lastCycle}
+use Rattle.charts.specs.Text.{spaces, headText, rowText, chartRow, pageText, printedOn}
 
 -- a text stored where another one ends
 module _ (l xs ys : List ℕ) (i j : ℕ) {mid last : List ℕ} where

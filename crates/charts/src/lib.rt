@@ -9,7 +9,8 @@ ghost use Rattle.logic.specs.Listed.{listed};
 ghost use Rattle.model.specs.Listing.{joined};
 ghost use Rattle.session_answers.specs.Answers.{checkBits};
 ghost use Rattle.session_answers.specs.Left.{leftAfter};
-ghost use Rattle.charts.specs.Page.{pageSignals, pageCycles, lineBytes, signalsLength, recordLength, pageLength, glyph as glyphOf, spaces, headText, rowText, chartRow, lastCycle, pageText, printedOn};
+ghost use Rattle.charts.specs.Page.{pageSignals, pageCycles, lineBytes, signalsLength, recordLength, pageLength, glyph as glyphOf, lastCycle};
+ghost use Rattle.charts.specs.Text.{spaces, headText, rowText, chartRow, pageText, printedOn};
 ghost use Rattle.charts.specs.Checks.{lentCheck, countsCheck, signalsCheck, rowsCheck, chartCheck};
 ghost use Rattle.charts.specs.Answer.{chartRefusal, ChartAnswers};
 use clock::Cycle;
@@ -82,7 +83,7 @@ fn check_lent(signals: &[u8], values: &[u8], page: &[u8]) -> ChartAnswer
     ChartAnswer::Done
 }
 
-// 46: the counts, and the last cycle. What is left of the cycles is compared with the first one, since their sum may not have room.
+// 46: the counts, and the last cycle. It is judged by a difference, since 32 bits may have no room for the sum.
 fn check_counts(count: u32, first: u32, cycles: u32) -> ChartAnswer
     ensures { λ r. ⌜ ChartAnswers (countsCheck count first cycles) r ⌝ }
 {

@@ -1,5 +1,6 @@
 pub mod Lines
 pub mod Refusals
 pub mod Pages
+pub mod Exact
 pub mod Exported
 pub mod Trials

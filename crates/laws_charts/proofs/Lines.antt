@@ -14,7 +14,8 @@ use Rattle.writing.specs.Text.{fieldText}
 use Rattle.writing.proofs.Writing.{length-text}
 use Rattle.laws_writing.proofs.Spelling.{text-printed}
 use Rattle.model.specs.Listing.{joined}
-use Rattle.charts.specs.Page.{pageCycles, lineColumns, lineBytes, glyph, spaces, headText, rowText, chartRow, chosen, charted, lastCycle, pageText, printedOn}
+use Rattle.charts.specs.Page.{pageCycles, lineColumns, lineBytes, glyph, chosen, charted, lastCycle}
+use Rattle.charts.specs.Text.{spaces, headText, rowText, chartRow, pageText, printedOn}
 use Rattle.charts.proofs.Writing.{cyclesText, headColumns, length-cycles, length-head-columns, length-head, glyphs, numberText, valuesText, rowColumns, length-number, length-values, length-row-columns, length-row, length-joined, length-page}
 
 -- the byte at a place of two texts, of the first or of the second

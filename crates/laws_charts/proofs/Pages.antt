@@ -19,10 +19,12 @@ use Rattle.session_answers.specs.Answers.{checkBits}
 use Rattle.session_answers.specs.Left.{leftAfter}
 use Rattle.session_answers.proofs.Left.{left-done, left-refused}
 use Rattle.session_answers.proofs.Calls.{done-passed, passed-done}
-use Rattle.charts.specs.Page.{pageCycles, pageLength, lineColumns, lineBytes, spaces, chosen, charted, glyph, headText, rowText, chartRow, lastCycle, pageText, printedOn}
+use Rattle.charts.specs.Page.{pageCycles, pageLength, lineColumns, lineBytes, chosen, charted, glyph, lastCycle}
+use Rattle.charts.specs.Text.{spaces, headText, rowText, chartRow, pageText, printedOn}
 use Rattle.charts.proofs.Refusals.{ChartSizes, ChartCounts, chart-lent, chart-counts}
 use Rattle.laws_writing.proofs.Spelling.{text-right}
 use Rattle.laws_charts.specs.Calls.{Charts}
+use Rattle.laws_charts.specs.Claim.{ChartClaim}
 use Rattle.laws_charts.specs.Reading.{columnPlace, byteAt, ShowsNumber, PageOf}
 use Rattle.laws_charts.proofs.Lines.{head-first, head-last, head-spaces, head-end, head-printed, row-signal, row-two-spaces, row-glyph, row-spaces, row-end, row-printed, page-size, page-head, page-row, page-others}
 use Rattle.laws_charts.proofs.Refusals.{chart-numbered, signals-high, check-within}
@@ -138,6 +140,9 @@ module _ {signals values page left : List ℕ} {count firstCycle cycles bits : �
       (page-of signals values page count firstCycle cycles (chart-lent signals values page count firstCycle cycles accepted)
       (chart-counts signals values page count firstCycle cycles accepted)
       (signals-high signals values page count firstCycle cycles accepted))
+
+  pub chart-claim : ChartClaim signals values page count firstCycle cycles bits left
+  chart-claim = record { answer = charts .answer; refused = chart-refused; printed = chart-printed }
 
 -- pieces that agree
 joined-same : (n : ℕ) (f g : ℕ → List ℕ) → ((k : ℕ) → k < n → f k ≡ g k) → joined n f ≡ joined n g

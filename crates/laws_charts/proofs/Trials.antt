@@ -7,7 +7,8 @@ use Rattle.logic.specs.Test.{_and_, _or_}
 use Rattle.logic.specs.Listed.{listed}
 use Rattle.writing.specs.Text.{columnOf, fieldText}
 use Rattle.model.specs.Refusal.{pass, fail, first, unless, firstBelow}
-use Rattle.charts.specs.Page.{glyph, headText, rowText}
+use Rattle.charts.specs.Page.{glyph}
+use Rattle.charts.specs.Text.{headText, rowText}
 use Rattle.charts.specs.Checks.{onPage, countsCheck, signalCheck, signalsCheck, valueCheck, rowCheck, rowsCheck, chartCheck}
 use Rattle.charts.proofs.Refusals.{lent-pass}
 

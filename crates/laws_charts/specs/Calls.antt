@@ -4,7 +4,7 @@ use mathlib.Core.Path.{_≡_}
 use mathlib.Core.List.{List}
 use Rattle.session_answers.specs.Answers.{checkBits}
 use Rattle.session_answers.specs.Left.{leftAfter}
-use Rattle.charts.specs.Page.{pageText, printedOn}
+use Rattle.charts.specs.Text.{pageText, printedOn}
 use Rattle.charts.specs.Checks.{chartCheck}
 
 -- a call of cavundir_chart that met its contract
