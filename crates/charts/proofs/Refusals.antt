@@ -63,15 +63,15 @@ module _ (count firstCycle cycles : ℕ) where
   counted : onPage count firstCycle cycles ≡ true → ChartCounts
   unfolding onPage
   counted e =
-      let e1 = and-right _ _ e in
-      let e2 = and-right _ _ e1 in
-      let e3 = and-right _ _ e2 in
+      let most = and-right _ _ e in
+      let some = and-right _ _ most in
+      let rest = and-right _ _ some in
       record {
         count-low = leb-true 1 count (and-left _ _ e);
-        count-high = leb-true count pageSignals (and-left _ _ e1);
-        cycles-low = leb-true 1 cycles (and-left _ _ e2);
-        cycles-high = leb-true cycles pageCycles (and-left _ _ e3);
-        last-high = leb-true (lastCycle firstCycle cycles) 65535 (and-right _ _ e3);
+        count-high = leb-true count pageSignals (and-left _ _ most);
+        cycles-low = leb-true 1 cycles (and-left _ _ some);
+        cycles-high = leb-true cycles pageCycles (and-left _ _ rest);
+        last-high = leb-true (lastCycle firstCycle cycles) 65535 (and-right _ _ rest);
       }
 
   pub counts-wrong : (ChartCounts → ⊥) → countsCheck count firstCycle cycles ≡ fail 46 0

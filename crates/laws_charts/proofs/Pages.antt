@@ -1,33 +1,27 @@
--- What a call leaves, by its contract: a page on which a reader finds what was recorded, or the bytes that were lent; and nothing past the
--- counts plays a part in it.
-use Prim.Native.Nat.{ℕ, zero, suc, _+_, _-_, _<_, _≤_}
-use mathlib.Core.Path.{_≡_, refl, sym, subst, _∙_, ap, ap₂}
-use mathlib.Core.List.{List, [], _∷_, _++_}
+-- What a call leaves, by its contract: a page on which a reader finds what was recorded, or the bytes that were lent.
+use Prim.Native.Nat.{ℕ, zero, suc, _+_, _<_, _≤_}
+use mathlib.Core.Path.{_≡_, refl, sym, subst, _∙_, ap}
+use mathlib.Core.List.{List}
 use native.Mathlib.Omega.{arith}
 use lib.Dec.{eqb}
 use lib.ListN.{length, getD, drop, length-drop}
 use lib.Seq.{length-take-le, getD-take, getD-drop, ext-getD}
 use Rattle.logic.specs.Choice.{if_then_else_}
-use Rattle.logic.proofs.Listed.{listed-same}
 use Rattle.fields.specs.Field.{columnsAt, isField, number}
 use Rattle.fields.specs.Line.{newline}
 use Rattle.writing.specs.Text.{fieldText}
 use Rattle.writing.proofs.Writing.{length-text}
-use Rattle.model.specs.Refusal.{Check}
-use Rattle.model.specs.Listing.{joined}
-use Rattle.session_answers.specs.Answers.{checkBits}
-use Rattle.session_answers.specs.Left.{leftAfter}
 use Rattle.session_answers.proofs.Left.{left-done, left-refused}
 use Rattle.session_answers.proofs.Calls.{done-passed, passed-done}
 use Rattle.charts.specs.Page.{pageCycles, pageLength, lineColumns, lineBytes, chosen, charted, glyph, lastCycle}
-use Rattle.charts.specs.Text.{spaces, headText, rowText, chartRow, pageText, printedOn}
+use Rattle.charts.specs.Text.{headText, chartRow, pageText, printedOn}
 use Rattle.charts.proofs.Refusals.{ChartSizes, ChartCounts, chart-lent, chart-counts}
 use Rattle.laws_writing.proofs.Spelling.{text-right}
 use Rattle.laws_charts.specs.Calls.{Charts}
 use Rattle.laws_charts.specs.Claim.{ChartClaim}
 use Rattle.laws_charts.specs.Reading.{columnPlace, byteAt, ShowsNumber, PageOf}
 use Rattle.laws_charts.proofs.Lines.{head-first, head-last, head-spaces, head-end, head-printed, row-signal, row-two-spaces, row-glyph, row-spaces, row-end, row-printed, page-size, page-head, page-row, page-others}
-use Rattle.laws_charts.proofs.Refusals.{chart-numbered, signals-high, check-within}
+use Rattle.laws_charts.proofs.Refusals.{chart-numbered, signals-high}
 
 -- six columns with the text of a number show it
 shows-text : (page : List ℕ) (place n : ℕ) → place + 6 ≤ length page → n ≤ 65535
@@ -143,35 +137,3 @@ module _ {signals values page left : List ℕ} {count firstCycle cycles bits : �
 
   pub chart-claim : ChartClaim signals values page count firstCycle cycles bits left
   chart-claim = record { answer = charts .answer; refused = chart-refused; printed = chart-printed }
-
--- pieces that agree
-joined-same : (n : ℕ) (f g : ℕ → List ℕ) → ((k : ℕ) → k < n → f k ≡ g k) → joined n f ≡ joined n g
-unfolding joined
-joined-same zero f g h = refl
-joined-same (suc n) f g h = ap₂ (λ (a b : List ℕ). a ++ b) (joined-same n f g (λ k l. h k (omega arith))) (h n (omega arith))
-
--- signals and values that agree within the counts give the same text
-module _ (signals values signals′ values′ : List ℕ) (count firstCycle cycles : ℕ) where
-  text-within : ((k : ℕ) → k < count → chosen signals k ≡ chosen signals′ k)
-      → ((k : ℕ) → k < count → (c : ℕ) → c < cycles → charted values k c ≡ charted values′ k c)
-      → pageText signals values count firstCycle cycles ≡ pageText signals′ values′ count firstCycle cycles
-  unfolding pageText rowText
-  text-within same equal =
-      ap (λ (rows : List ℕ). headText firstCycle (lastCycle firstCycle cycles) ++ rows)
-      (joined-same count (chartRow signals values cycles) (chartRow signals′ values′ cycles)
-      (λ k h.
-      ap₂ (λ (s : ℕ) (shown : List ℕ). fieldText s ++ spaces 2 ++ shown ++ spaces (lineColumns - (8 + cycles)) ++ newline ∷ []) (same k h)
-      (listed-same cycles _ _ (λ c l. ap glyph (equal k h c l)))))
-
--- with signals and values that agree within the counts a call answers and leaves the same
-pub chart-reads-within : {signals values signals′ values′ page left left′ : List ℕ} {count firstCycle cycles bits bits′ : ℕ}
-    → length signals ≡ length signals′ → length values ≡ length values′ → ((k : ℕ) → k < count → chosen signals k ≡ chosen signals′ k)
-    → ((k : ℕ) → k < count → (c : ℕ) → c < cycles → charted values k c ≡ charted values′ k c)
-    → Charts signals values page count firstCycle cycles bits left → Charts signals′ values′ page count firstCycle cycles bits′ left′
-    → (bits ≡ bits′) × (left ≡ left′)
-chart-reads-within {signals} {values} {signals′} {values′} {page} {count = count} {firstCycle} {cycles} long wide same equal one other =
-    let check = check-within signals values signals′ values′ page count firstCycle cycles long wide same equal in
-    let text = text-within signals values signals′ values′ count firstCycle cycles same equal in (
-      one .answer ∙ ap checkBits check ∙ sym (other .answer),
-      one .leaves ∙ ap₂ (λ (k : Check) (t : List ℕ). leftAfter k (printedOn page t) page) check text ∙ sym (other .leaves),
-    )
