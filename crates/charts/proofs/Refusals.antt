@@ -11,6 +11,7 @@ use Rattle.logic.proofs.Tests.{and-true, and-left, and-right}
 use Rattle.model.specs.Refusal.{pass, fail, unless, firstBelow}
 use Rattle.model.specs.Session.{sameLengths}
 use Rattle.model.proofs.Refusals.{first-left, first-right, unless-true, unless-pass, below-pass, below-first}
+use Rattle.session_answers.proofs.Recorded.{recorded-above}
 use Rattle.charts.specs.Page.{pageSignals, pageCycles, signalsLength, recordLength, pageLength, chosen, charted, lastCycle}
 use Rattle.charts.specs.Checks.{chartLent, chartFixed, lentCheck, onPage, countsCheck, signalCheck, valueCheck, rowCheck, chartCheck}
 
@@ -105,15 +106,6 @@ module _ (signals : List ℕ) (k : ℕ) {s : ℕ} (e : s ≡ chosen signals k) w
   unfolding signalCheck unless _and_
   signal-right some h = rw (← e, le-leb 1 s (omega arith), le-leb s 4096 h)
 
-module _ (values : List ℕ) (k c : ℕ) where
-  pub value-above : 3 < charted values k c → valueCheck values k c ≡ fail 42 (charted values k c)
-  unfolding valueCheck unless
-  value-above h = rw (lt-leb (charted values k c) 3 h)
-
-  pub value-right : charted values k c ≤ 3 → valueCheck values k c ≡ pass
-  unfolding valueCheck unless
-  value-right h = rw (le-leb (charted values k c) 3 h)
-
 -- line k, its values before cycle c being right
 module _ (values : List ℕ) (cycles k c : ℕ) (before : firstBelow c (valueCheck values k) ≡ pass) where
   pub row-right : c ≤ cycles → cycles ≤ c → rowCheck values cycles k ≡ pass
@@ -123,10 +115,10 @@ module _ (values : List ℕ) (cycles k c : ℕ) (before : firstBelow c (valueChe
       subst (λ (m : ℕ). firstBelow m (valueCheck values k) ≡ pass) end before
 
   pub row-wrong : c < cycles → 3 < charted values k c → rowCheck values cycles k ≡ fail 42 (charted values k c)
-  unfolding rowCheck
+  unfolding rowCheck valueCheck
   row-wrong low above =
       below-first cycles (valueCheck values k)
-      (record { at = c; low = low; fails = value-above values k c above; before = below-pass c (valueCheck values k) before })
+      (record { at = c; low = low; fails = recorded-above (charted values k c) above; before = below-pass c (valueCheck values k) before })
 
 -- what a call that is not refused has been lent
 module _ (signals values page : List ℕ) (count firstCycle cycles : ℕ) (e : chartCheck signals values page count firstCycle cycles ≡ pass) where

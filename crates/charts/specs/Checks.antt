@@ -7,6 +7,7 @@ use lib.ListN.{length}
 use Rattle.logic.specs.Test.{_and_}
 use Rattle.model.specs.Refusal.{Check, first, unless, firstBelow}
 use Rattle.model.specs.Session.{Lengths, sameLengths}
+use Rattle.session_answers.specs.Recorded.{recordedCheck}
 use Rattle.charts.specs.Page.{pageSignals, pageCycles, signalsLength, recordLength, pageLength, chosen, charted, lastCycle}
 
 -- the lengths lent, those of the signals, the values and the page, and the fixed ones
@@ -36,7 +37,7 @@ signalsCheck signals count = firstBelow count (signalCheck signals)
 
 -- "first recorded value above 3 of those to be printed, by line, then cycle"
 unfoldable pub valueCheck : List ℕ → ℕ → ℕ → Check
-valueCheck values k c = unless (leb (charted values k c) 3) 42 (charted values k c)
+valueCheck values k c = recordedCheck (charted values k c)
 
 unfoldable pub rowCheck : List ℕ → ℕ → ℕ → Check
 rowCheck values cycles k = firstBelow cycles (valueCheck values k)

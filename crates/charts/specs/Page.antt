@@ -21,6 +21,17 @@ lineColumns = 80
 abbrev pub lineBytes : ℕ
 lineBytes = 81
 
+-- Columns are counted from 0. "first and last cycle, six columns each": the last cycle begins in column 6, and spaces follow from 12 on.
+-- "its number in six columns, two spaces": the values begin in column 8.
+abbrev pub numberColumns : ℕ
+numberColumns = 6
+
+abbrev pub cyclesColumns : ℕ
+cyclesColumns = 12
+
+abbrev pub valueColumn : ℕ
+valueColumn = 8
+
 -- the lengths of the buffers: two bytes for each signal's number, a row of 72 values for each signal, and the page with its first line
 abbrev pub signalsLength : ℕ
 signalsLength = 2 * pageSignals

@@ -7,19 +7,19 @@ use Rattle.fields.specs.Field.{space}
 use Rattle.fields.specs.Line.{newline}
 use Rattle.writing.specs.Text.{fieldText}
 use Rattle.model.specs.Listing.{joined}
-use Rattle.charts.specs.Page.{lineColumns, chosen, charted, glyph, lastCycle}
+use Rattle.charts.specs.Page.{lineColumns, cyclesColumns, valueColumn, chosen, charted, glyph, lastCycle}
 
 abbrev pub spaces : ℕ → List ℕ
 spaces n = listed n (λ k. space)
 
 -- "The first line has first and last cycle, six columns each, then spaces."
 unfoldable pub headText : ℕ → ℕ → List ℕ
-headText firstCycle last = fieldText firstCycle ++ fieldText last ++ spaces (lineColumns - 12) ++ newline ∷ []
+headText firstCycle last = fieldText firstCycle ++ fieldText last ++ spaces (lineColumns - cyclesColumns) ++ newline ∷ []
 
 -- "its number in six columns, two spaces, then one of 0 1 U Z for each cycle, spaces to column 80"
 unfoldable pub rowText : ℕ → ℕ → (ℕ → ℕ) → List ℕ
 rowText signal cycles value =
-    fieldText signal ++ spaces 2 ++ listed cycles (λ c. glyph (value c)) ++ spaces (lineColumns - (8 + cycles)) ++ newline ∷ []
+    fieldText signal ++ spaces 2 ++ listed cycles (λ c. glyph (value c)) ++ spaces (lineColumns - (valueColumn + cycles)) ++ newline ∷ []
 
 -- the line of the signal chosen for line k
 abbrev pub chartRow : List ℕ → List ℕ → ℕ → ℕ → List ℕ

@@ -39,6 +39,13 @@ const COLUMNS: usize = 80;
 
 const LINE: usize = 81;
 
+// The columns of a number and of the two cycles, and the column of the first value.
+const NUMBER: usize = 6;
+
+const CYCLES: usize = 12;
+
+const FIRST_VALUE: usize = 8;
+
 const SPACE: u8 = 32;
 
 const NEWLINE: u8 = 10;
@@ -218,8 +225,8 @@ fn write_head(page: &mut [u8], first: Cycle, last: Cycle)
     ensures { λ _. ⌜ now (page .exit) ≡ sets (now (page .entry)) 0 (headText (first .0) (last .0)) ⌝ }
 {
     writing::write_field(page, 0, first.0);
-    writing::write_field(page, 6, last.0);
-    write_spaces(page, 12, COLUMNS - 12);
+    writing::write_field(page, NUMBER, last.0);
+    write_spaces(page, CYCLES, COLUMNS - CYCLES);
     page[COLUMNS] = NEWLINE;
 }
 
@@ -229,9 +236,13 @@ fn write_row(page: &mut [u8], at: usize, signal: u16, values: &[u8], from: usize
     ensures { λ _. ⌜ now (page .exit) ≡ sets (now (page .entry)) at (rowText signal cycles (λ c. getD (now (values .entry)) (from + c) 0)) ⌝ }
 {
     writing::write_field(page, at, signal);
-    write_spaces(page, at + 6, 2);
-    write_glyphs(page, at + 8, values, from, cycles);
-    write_spaces(page, at + 8 + cycles, COLUMNS - (8 + cycles));
+    write_spaces(page, at + NUMBER, 2);
+    write_glyphs(page, at + FIRST_VALUE, values, from, cycles);
+    write_spaces(
+        page,
+        at + FIRST_VALUE + cycles,
+        COLUMNS - (FIRST_VALUE + cycles),
+    );
     page[at + COLUMNS] = NEWLINE;
 }
 

@@ -9,7 +9,7 @@ use lib.Seq.{getD-take, getD-drop, ext-getD}
 use Rattle.fields.specs.Field.{columnsAt}
 use Rattle.writing.specs.Text.{fieldText}
 use Rattle.laws_writing.proofs.RoundTrip.{field-is-text}
-use Rattle.charts.specs.Page.{lineColumns, lineBytes}
+use Rattle.charts.specs.Page.{cyclesColumns, valueColumn, lineColumns, lineBytes}
 use Rattle.laws_charts.specs.Reading.{columnPlace, byteAt, ShowsNumber, PageOf}
 
 -- the six columns that show a number have its text
@@ -31,9 +31,9 @@ module _ {signals values old p q : List ℕ} {count firstCycle cycles : ℕ} (a 
       column-in p place i l ∙ ap (λ (columns : List ℕ). getD columns i 0) (shown-text s ∙ sym (shown-text t)) ∙ sym (column-in q place i l)
 
   on-first : (i : ℕ) → i < lineColumns → byteAt p 0 i ≡ byteAt q 0 i
-  on-first i l = go (decLt i 6) (decLt i 12)
+  on-first i l = go (decLt i 6) (decLt i cyclesColumns)
     where
-      go : Dec (i < 6) → Dec (i < 12) → byteAt p 0 i ≡ byteAt q 0 i
+      go : Dec (i < 6) → Dec (i < cyclesColumns) → byteAt p 0 i ≡ byteAt q 0 i
       go (yes x) y = field-same 0 i firstCycle (a .shows-first) (b .shows-first) x
       go (no x) (yes y) =
           let place : columnPlace 0 i ≡ 6 + (i - 6) = omega arith in
@@ -43,9 +43,9 @@ module _ {signals values old p q : List ℕ} {count firstCycle cycles : ℕ} (a 
       go (no x) (no y) = both (a .first-spaces i (omega arith) l) (b .first-spaces i (omega arith) l)
 
   on-signal : (k i : ℕ) → k < count → i < lineColumns → byteAt p (suc k) i ≡ byteAt q (suc k) i
-  on-signal k i h l = go (decLt i 6) (decLt i 8) (decLt i (8 + cycles))
+  on-signal k i h l = go (decLt i 6) (decLt i valueColumn) (decLt i (valueColumn + cycles))
     where
-      go : Dec (i < 6) → Dec (i < 8) → Dec (i < 8 + cycles) → byteAt p (suc k) i ≡ byteAt q (suc k) i
+      go : Dec (i < 6) → Dec (i < valueColumn) → Dec (i < valueColumn + cycles) → byteAt p (suc k) i ≡ byteAt q (suc k) i
       go (yes x) y z =
           let place : columnPlace (suc k) i ≡ columnPlace (suc k) 0 + i = omega arith in
           ap (λ (m : ℕ). getD p m 0) place
@@ -53,9 +53,9 @@ module _ {signals values old p q : List ℕ} {count firstCycle cycles : ℕ} (a 
           ∙ ap (λ (m : ℕ). getD q m 0) (sym place)
       go (no x) (yes y) z = both (a .two-spaces k h i (omega arith) y) (b .two-spaces k h i (omega arith) y)
       go (no x) (no y) (yes z) =
-          let column : i ≡ 8 + (i - 8) = omega arith in
+          let column : i ≡ valueColumn + (i - valueColumn) = omega arith in
           ap (byteAt p (suc k)) column
-          ∙ both (a .values-shown k h (i - 8) (omega arith)) (b .values-shown k h (i - 8) (omega arith))
+          ∙ both (a .values-shown k h (i - valueColumn) (omega arith)) (b .values-shown k h (i - valueColumn) (omega arith))
           ∙ ap (byteAt q (suc k)) (sym column)
       go (no x) (no y) (no z) = both (a .last-spaces k h i (omega arith) l) (b .last-spaces k h i (omega arith) l)
 

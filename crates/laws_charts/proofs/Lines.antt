@@ -14,7 +14,7 @@ use Rattle.writing.specs.Text.{fieldText}
 use Rattle.writing.proofs.Writing.{length-text}
 use Rattle.laws_writing.proofs.Spelling.{text-printed}
 use Rattle.model.specs.Listing.{joined}
-use Rattle.charts.specs.Page.{pageCycles, lineColumns, lineBytes, glyph, chosen, charted, lastCycle}
+use Rattle.charts.specs.Page.{cyclesColumns, valueColumn, pageCycles, lineColumns, lineBytes, glyph, chosen, charted, lastCycle}
 use Rattle.charts.specs.Text.{spaces, headText, rowText, chartRow, pageText, printedOn}
 use Rattle.charts.proofs.Writing.{cyclesText, headColumns, length-cycles, length-head-columns, length-head, glyphs, numberText, valuesText, rowColumns, length-number, length-values, length-row-columns, length-row, length-joined, length-page}
 
@@ -49,29 +49,29 @@ module _ (first last : ℕ) where
   pub head-first : (i : ℕ) → i < 6 → getD (headText first last) i 0 ≡ getD (fieldText first) i 0
   head-first i l =
       head-column i (omega arith)
-      ∙ at-first (cyclesText first last) (spaces (lineColumns - 12)) i (omega (arith, length-cycles first last))
+      ∙ at-first (cyclesText first last) (spaces (lineColumns - cyclesColumns)) i (omega (arith, length-cycles first last))
       ∙ at-first (fieldText first) (fieldText last) i (omega (arith, length-text first))
 
   pub head-last : (i : ℕ) → i < 6 → getD (headText first last) (6 + i) 0 ≡ getD (fieldText last) i 0
   head-last i l =
       head-column (6 + i) (omega arith)
-      ∙ at-first (cyclesText first last) (spaces (lineColumns - 12)) (6 + i) (omega (arith, length-cycles first last))
+      ∙ at-first (cyclesText first last) (spaces (lineColumns - cyclesColumns)) (6 + i) (omega (arith, length-cycles first last))
       ∙ at-second (fieldText first) (fieldText last) (6 + i) i (omega (arith, length-text first))
 
-  pub head-spaces : (i : ℕ) → 12 ≤ i → i < lineColumns → getD (headText first last) i 0 ≡ 32
+  pub head-spaces : (i : ℕ) → cyclesColumns ≤ i → i < lineColumns → getD (headText first last) i 0 ≡ 32
   head-spaces i low l =
       head-column i l
-      ∙ at-second (cyclesText first last) (spaces (lineColumns - 12)) i (i - 12) (omega (arith, length-cycles first last))
-      ∙ space-at (lineColumns - 12) (i - 12) (omega arith)
+      ∙ at-second (cyclesText first last) (spaces (lineColumns - cyclesColumns)) i (i - cyclesColumns) (omega (arith, length-cycles first last))
+      ∙ space-at (lineColumns - cyclesColumns) (i - cyclesColumns) (omega arith)
 
   pub head-end : getD (headText first last) lineColumns 0 ≡ 10
   unfolding headText
   head-end = at-second (headColumns first last) (10 ∷ []) lineColumns 0 (omega (arith, length-head-columns first last))
 
   pub head-printed : (i : ℕ) → i < lineColumns → 32 ≤ getD (headText first last) i 0
-  head-printed i l = go (decLt i 6) (decLt i 12)
+  head-printed i l = go (decLt i 6) (decLt i cyclesColumns)
     where
-      go : Dec (i < 6) → Dec (i < 12) → 32 ≤ getD (headText first last) i 0
+      go : Dec (i < 6) → Dec (i < cyclesColumns) → 32 ≤ getD (headText first last) i 0
       go (yes a) b = rw (head-first i a) (text-printed first i a)
       go (no a) (yes b) =
           let place : i ≡ 6 + (i - 6) = omega arith in
@@ -87,12 +87,12 @@ module _ (signal cycles : ℕ) (value : ℕ → ℕ) (few : cycles ≤ pageCycle
   unfolding rowText
   row-column i l = at-first (rowColumns signal cycles value) (10 ∷ []) i (omega (arith, length-row-columns signal cycles value few))
 
-  row-value : (i : ℕ) → i < 8 + cycles → getD line i 0 ≡ getD (valuesText signal cycles value) i 0
+  row-value : (i : ℕ) → i < valueColumn + cycles → getD line i 0 ≡ getD (valuesText signal cycles value) i 0
   row-value i l =
       row-column i (omega arith)
-      ∙ at-first (valuesText signal cycles value) (spaces (lineColumns - (8 + cycles))) i (omega (arith, length-values signal cycles value))
+      ∙ at-first (valuesText signal cycles value) (spaces (lineColumns - (valueColumn + cycles))) i (omega (arith, length-values signal cycles value))
 
-  row-begins : (i : ℕ) → i < 8 → getD line i 0 ≡ getD (numberText signal cycles value) i 0
+  row-begins : (i : ℕ) → i < valueColumn → getD line i 0 ≡ getD (numberText signal cycles value) i 0
   row-begins i l =
       row-value i (omega arith)
       ∙ at-first (numberText signal cycles value) (glyphs signal cycles value) i (omega (arith, length-number signal cycles value))
@@ -100,35 +100,35 @@ module _ (signal cycles : ℕ) (value : ℕ → ℕ) (few : cycles ≤ pageCycle
   pub row-signal : (i : ℕ) → i < 6 → getD line i 0 ≡ getD (fieldText signal) i 0
   row-signal i l = row-begins i (omega arith) ∙ at-first (fieldText signal) (spaces 2) i (omega (arith, length-text signal))
 
-  pub row-two-spaces : (i : ℕ) → 6 ≤ i → i < 8 → getD line i 0 ≡ 32
+  pub row-two-spaces : (i : ℕ) → 6 ≤ i → i < valueColumn → getD line i 0 ≡ 32
   row-two-spaces i low l =
       row-begins i l ∙ at-second (fieldText signal) (spaces 2) i (i - 6) (omega (arith, length-text signal)) ∙ space-at 2 (i - 6) (omega arith)
 
-  pub row-glyph : (c : ℕ) → c < cycles → getD line (8 + c) 0 ≡ glyph (value c)
+  pub row-glyph : (c : ℕ) → c < cycles → getD line (valueColumn + c) 0 ≡ glyph (value c)
   row-glyph c l =
-      row-value (8 + c) (omega arith)
-      ∙ at-second (numberText signal cycles value) (glyphs signal cycles value) (8 + c) c (omega (arith, length-number signal cycles value))
+      row-value (valueColumn + c) (omega arith)
+      ∙ at-second (numberText signal cycles value) (glyphs signal cycles value) (valueColumn + c) c (omega (arith, length-number signal cycles value))
       ∙ listed-at cycles (λ k. glyph (value k)) c l
 
-  pub row-spaces : (i : ℕ) → 8 + cycles ≤ i → i < lineColumns → getD line i 0 ≡ 32
+  pub row-spaces : (i : ℕ) → valueColumn + cycles ≤ i → i < lineColumns → getD line i 0 ≡ 32
   row-spaces i low l =
       row-column i l
-      ∙ at-second (valuesText signal cycles value) (spaces (lineColumns - (8 + cycles))) i (i - (8 + cycles)) (omega (arith, length-values signal cycles value))
-      ∙ space-at (lineColumns - (8 + cycles)) (i - (8 + cycles)) (omega arith)
+      ∙ at-second (valuesText signal cycles value) (spaces (lineColumns - (valueColumn + cycles))) i (i - (valueColumn + cycles)) (omega (arith, length-values signal cycles value))
+      ∙ space-at (lineColumns - (valueColumn + cycles)) (i - (valueColumn + cycles)) (omega arith)
 
   pub row-end : getD line lineColumns 0 ≡ 10
   unfolding rowText
   row-end = at-second (rowColumns signal cycles value) (10 ∷ []) lineColumns 0 (omega (arith, length-row-columns signal cycles value few))
 
   pub row-printed : (i : ℕ) → i < lineColumns → 32 ≤ getD line i 0
-  row-printed i l = go (decLt i 6) (decLt i 8) (decLt i (8 + cycles))
+  row-printed i l = go (decLt i 6) (decLt i valueColumn) (decLt i (valueColumn + cycles))
     where
-      go : Dec (i < 6) → Dec (i < 8) → Dec (i < 8 + cycles) → 32 ≤ getD line i 0
+      go : Dec (i < 6) → Dec (i < valueColumn) → Dec (i < valueColumn + cycles) → 32 ≤ getD line i 0
       go (yes a) b c = rw (row-signal i a) (text-printed signal i a)
       go (no a) (yes b) c = omega (arith, row-two-spaces i (omega arith) b)
       go (no a) (no b) (yes c) =
-          let place : i ≡ 8 + (i - 8) = omega arith in
-          subst (λ (m : ℕ). 32 ≤ getD line m 0) (sym place) (rw (row-glyph (i - 8) (omega arith)) (glyph-printed (value (i - 8))))
+          let place : i ≡ valueColumn + (i - valueColumn) = omega arith in
+          subst (λ (m : ℕ). 32 ≤ getD line m 0) (sym place) (rw (row-glyph (i - valueColumn) (omega arith)) (glyph-printed (value (i - valueColumn))))
       go (no a) (no b) (no c) = omega (arith, row-spaces i (omega arith) l)
 
 -- a byte of lines, one after the other

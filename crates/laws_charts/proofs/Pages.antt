@@ -13,7 +13,7 @@ use Rattle.writing.specs.Text.{fieldText}
 use Rattle.writing.proofs.Writing.{length-text}
 use Rattle.session_answers.proofs.Left.{left-done, left-refused}
 use Rattle.session_answers.proofs.Calls.{done-passed, passed-done}
-use Rattle.charts.specs.Page.{pageCycles, pageLength, lineColumns, lineBytes, chosen, charted, glyph, lastCycle}
+use Rattle.charts.specs.Page.{numberColumns, valueColumn, pageCycles, pageLength, lineColumns, lineBytes, chosen, charted, glyph, lastCycle}
 use Rattle.charts.specs.Text.{headText, chartRow, pageText, printedOn}
 use Rattle.charts.proofs.Refusals.{ChartSizes, ChartCounts, chart-lent, chart-counts}
 use Rattle.laws_writing.proofs.Spelling.{text-right}
@@ -90,11 +90,11 @@ module _ (signals values old : List ℕ) (count firstCycle cycles : ℕ) (lent :
       shows-text page (columnPlace 0 0) firstCycle (omega (arith, size)) (omega (arith, counts .cycles-low, counts .last-high))
       (λ i l. on-head i (omega arith) ∙ head-first firstCycle last i l)
 
-  shows-last : ShowsNumber page (columnPlace 0 6) last
+  shows-last : ShowsNumber page (columnPlace 0 numberColumns) last
   shows-last =
-      shows-text page (columnPlace 0 6) last (omega (arith, size)) (counts .last-high)
+      shows-text page (columnPlace 0 numberColumns) last (omega (arith, size)) (counts .last-high)
       (λ i l.
-      let place : columnPlace 0 6 + i ≡ columnPlace 0 (6 + i) = omega arith in
+      let place : columnPlace 0 numberColumns + i ≡ columnPlace 0 (6 + i) = omega arith in
       ap (λ (m : ℕ). getD page m 0) place ∙ on-head (6 + i) (omega arith) ∙ head-last firstCycle last i l)
 
   shows-signal : (k : ℕ) → k < count → ShowsNumber page (columnPlace (suc k) 0) (chosen signals k)
@@ -115,7 +115,7 @@ module _ (signals values old : List ℕ) (count firstCycle cycles : ℕ) (lent :
         first-spaces = λ i low l. on-head i (omega arith) ∙ head-spaces firstCycle last i low l;
         shows-signal = shows-signal;
         two-spaces = λ k h i low l. on-row k i h (omega arith) ∙ row-two-spaces (chosen signals k) cycles (charted values k) few i low l;
-        values-shown = λ k h c l. on-row k (8 + c) h (omega (arith, few)) ∙ row-glyph (chosen signals k) cycles (charted values k) few c l;
+        values-shown = λ k h c l. on-row k (valueColumn + c) h (omega (arith, few)) ∙ row-glyph (chosen signals k) cycles (charted values k) few c l;
         last-spaces = λ k h i low l. on-row k i h (omega arith) ∙ row-spaces (chosen signals k) cycles (charted values k) few i low l;
         others = page-others signals values old count firstCycle cycles few;
       }

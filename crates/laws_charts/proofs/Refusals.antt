@@ -2,29 +2,23 @@
 use Prim.Native.Nat.{ℕ, _≤_, _<_}
 use mathlib.Core.Path.{_≡_}
 use mathlib.Core.List.{List}
-use mathlib.Core.Logic.{⊎-elim}
 use native.Mathlib.Omega.{arith}
 use borrow.Author.Tests.{leb-true}
 use Rattle.logic.proofs.Tests.{and-right}
 use Rattle.model.specs.Refusal.{pass}
-use Rattle.model.proofs.Refusals.{first-left, first-right, first-fail, unless-true, unless-false, below-pass, below-fail}
-use Rattle.session_answers.proofs.Calls.{Numbered}
-use Rattle.charts.specs.Page.{chosen}
+use Rattle.model.proofs.Refusals.{first-left, first-right, unless-true, below-pass}
+use Rattle.session_answers.proofs.Calls.{Numbered, unless-numbered, first-numbered, below-numbered, recorded-numbered}
+use Rattle.charts.specs.Page.{chosen, charted}
 use Rattle.charts.specs.Checks.{lentCheck, countsCheck, signalCheck, signalsCheck, valueCheck, rowCheck, rowsCheck, chartCheck}
 
 module _ (signals values page : List ℕ) (count firstCycle cycles : ℕ) where
   pub chart-numbered : Numbered (chartCheck signals values page count firstCycle cycles)
   unfolding chartCheck lentCheck countsCheck signalsCheck signalCheck rowsCheck rowCheck valueCheck
-  chart-numbered number returned e =
-      ⊎-elim (λ p. let u = unless-false _ 40 0 p .1 in omega arith)
-      (λ p.
-      ⊎-elim (λ q. let u = unless-false _ 46 0 q .1 in omega arith)
-      (λ q.
-      ⊎-elim (λ r. let u = unless-false _ 41 _ (below-fail count _ r .fails) .1 in omega arith)
-      (λ r. let u = unless-false _ 42 _ (below-fail cycles _ (below-fail count _ (r .1) .fails) .fails) .1 in omega arith)
-      (first-fail _ _ (q .1)))
-      (first-fail _ _ (p .1)))
-      (first-fail _ _ e)
+  chart-numbered =
+      first-numbered _ _ (unless-numbered _ 40 0 (omega arith))
+      (first-numbered _ _ (unless-numbered _ 46 0 (omega arith))
+      (first-numbered _ _ (below-numbered count _ (λ k. unless-numbered _ 41 (chosen signals k) (omega arith)))
+      (below-numbered count _ (λ k. below-numbered cycles _ (λ c. recorded-numbered (charted values k c))))))
 
   -- the signals of a page that is printed
   pub signals-high : chartCheck signals values page count firstCycle cycles ≡ pass → (k : ℕ) → k < count → chosen signals k ≤ 4096

@@ -7,6 +7,7 @@ use Rattle.logic.specs.Test.{_and_, _or_}
 use Rattle.logic.specs.Listed.{listed}
 use Rattle.writing.specs.Text.{columnOf, fieldText}
 use Rattle.model.specs.Refusal.{pass, fail, first, unless, firstBelow}
+use Rattle.session_answers.specs.Recorded.{recordedCheck}
 use Rattle.charts.specs.Page.{glyph}
 use Rattle.charts.specs.Text.{headText, rowText}
 use Rattle.charts.specs.Checks.{onPage, countsCheck, signalCheck, signalsCheck, valueCheck, rowCheck, rowsCheck, chartCheck}
@@ -41,20 +42,20 @@ cycle-0 = refl
 
 -- signals 7 and 0, the values 4 and 0 in the first cycle: the signal of the second line comes before the value of the first
 pub signal-first : first (signalsCheck (7 ∷ 0 ∷ 0 ∷ 0 ∷ []) 2) (rowsCheck (4 ∷ []) 2 1) ≡ fail 41 0
-unfolding signalsCheck signalCheck rowsCheck rowCheck valueCheck firstBelow first unless _and_
+unfolding signalsCheck signalCheck rowsCheck rowCheck valueCheck recordedCheck firstBelow first unless _and_
 signal-first = refl
 
 -- 9 in the second cycle of the first line comes before 4 in the first cycle of the second
 pub line-first : rowsCheck (0 ∷ 9 ∷ (replicate 70 0 ++ 4 ∷ [])) 2 2 ≡ fail 42 9
-unfolding rowsCheck rowCheck valueCheck firstBelow first unless
+unfolding rowsCheck rowCheck valueCheck recordedCheck firstBelow first unless
 line-first = refl
 
 -- and the 9 is not judged with one cycle
 pub next-line : rowsCheck (0 ∷ 9 ∷ (replicate 70 0 ++ 4 ∷ [])) 2 1 ≡ fail 42 4
-unfolding rowsCheck rowCheck valueCheck firstBelow first unless
+unfolding rowsCheck rowCheck valueCheck recordedCheck firstBelow first unless
 next-line = refl
 
 -- signal 1 with the value 0 in cycle 0 makes a page
 pub some-page : chartCheck (1 ∷ replicate 111 0) (replicate 4032 0) (replicate 4617 0) 1 0 1 ≡ pass
-unfolding chartCheck countsCheck onPage signalsCheck signalCheck rowsCheck rowCheck valueCheck firstBelow first unless _and_
+unfolding chartCheck countsCheck onPage signalsCheck signalCheck rowsCheck rowCheck valueCheck recordedCheck firstBelow first unless _and_
 some-page = rw (lent-pass (1 ∷ replicate 111 0) (replicate 4032 0) (replicate 4617 0) (record { signals-size = refl; values-size = length-replicate {A = ℕ} 4032 0; page-size = length-replicate {A = ℕ} 4617 0 }))

@@ -14,8 +14,9 @@ use Rattle.model.specs.Session.{sameLengths}
 use Rattle.model.specs.Listing.{joined}
 use Rattle.model.proofs.Refusals.{below-same}
 use Rattle.session_answers.specs.Answers.{checkBits}
+use Rattle.session_answers.specs.Recorded.{recordedCheck}
 use Rattle.session_answers.specs.Left.{leftAfter}
-use Rattle.charts.specs.Page.{lineColumns, chosen, charted, glyph, lastCycle}
+use Rattle.charts.specs.Page.{lineColumns, valueColumn, chosen, charted, glyph, lastCycle}
 use Rattle.charts.specs.Text.{spaces, headText, rowText, chartRow, pageText, printedOn}
 use Rattle.charts.specs.Checks.{chartFixed, lentCheck, countsCheck, signalCheck, signalsCheck, valueCheck, rowCheck, rowsCheck, chartCheck}
 use Rattle.laws_charts.specs.Calls.{Charts}
@@ -39,7 +40,7 @@ module _ (signals values signals′ values′ : List ℕ) (count cycles : ℕ) (
       (ap (first (countsCheck count firstCycle cycles))
       (ap₂ first
       (below-same count _ _ (λ k h. ap (λ (s : ℕ). unless (leb 1 s and leb s 4096) 41 s) (same k h)))
-      (below-same count _ _ (λ k h. below-same cycles _ _ (λ c l. ap (λ (v : ℕ). unless (leb v 3) 42 v) (equal k h c l))))))
+      (below-same count _ _ (λ k h. below-same cycles _ _ (λ c l. ap recordedCheck (equal k h c l))))))
 
   -- and printed alike
   text-within : (firstCycle : ℕ) → pageText signals values count firstCycle cycles ≡ pageText signals′ values′ count firstCycle cycles
@@ -48,7 +49,7 @@ module _ (signals values signals′ values′ : List ℕ) (count cycles : ℕ) (
       ap (λ (rows : List ℕ). headText firstCycle (lastCycle firstCycle cycles) ++ rows)
       (joined-same count (chartRow signals values cycles) (chartRow signals′ values′ cycles)
       (λ k h.
-      ap₂ (λ (s : ℕ) (shown : List ℕ). fieldText s ++ spaces 2 ++ shown ++ spaces (lineColumns - (8 + cycles)) ++ newline ∷ []) (same k h)
+      ap₂ (λ (s : ℕ) (shown : List ℕ). fieldText s ++ spaces 2 ++ shown ++ spaces (lineColumns - (valueColumn + cycles)) ++ newline ∷ []) (same k h)
       (listed-same cycles _ _ (λ c l. ap glyph (equal k h c l)))))
 
   pub chart-reads-within : {page left left′ : List ℕ} {firstCycle bits bits′ : ℕ} → length signals ≡ length signals′ → length values ≡ length values′

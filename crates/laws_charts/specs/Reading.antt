@@ -7,7 +7,7 @@ use mathlib.Core.List.{List}
 use lib.ListN.{length, getD}
 use Rattle.fields.specs.Field.{space, isFieldAt, numberAt}
 use Rattle.fields.specs.Line.{newline}
-use Rattle.charts.specs.Page.{pageLength, lineColumns, lineBytes, chosen, charted, glyph, lastCycle}
+use Rattle.charts.specs.Page.{pageLength, lineColumns, lineBytes, numberColumns, cyclesColumns, valueColumn, chosen, charted, glyph, lastCycle}
 
 -- the place of a column of a line, and its byte
 abbrev pub columnPlace : ℕ → ℕ → ℕ
@@ -28,13 +28,13 @@ pub record PageOf (signals values old : List ℕ) (count firstCycle cycles : ℕ
   pub columns : (line : ℕ) → line ≤ count → (column : ℕ) → column < lineColumns → byteAt page line column ≡ newline → ⊥
   -- "The first line has first and last cycle, six columns each, then spaces."
   pub shows-first : ShowsNumber page (columnPlace 0 0) firstCycle
-  pub shows-last : ShowsNumber page (columnPlace 0 6) (lastCycle firstCycle cycles)
-  pub first-spaces : (column : ℕ) → 12 ≤ column → column < lineColumns → byteAt page 0 column ≡ space
+  pub shows-last : ShowsNumber page (columnPlace 0 numberColumns) (lastCycle firstCycle cycles)
+  pub first-spaces : (column : ℕ) → cyclesColumns ≤ column → column < lineColumns → byteAt page 0 column ≡ space
   -- "Each further line is one chosen signal, in the order chosen: its number in six columns, two spaces, then one of 0 1 U Z for each
   -- cycle, spaces to column 80."
   pub shows-signal : (k : ℕ) → k < count → ShowsNumber page (columnPlace (suc k) 0) (chosen signals k)
-  pub two-spaces : (k : ℕ) → k < count → (column : ℕ) → 6 ≤ column → column < 8 → byteAt page (suc k) column ≡ space
-  pub values-shown : (k : ℕ) → k < count → (c : ℕ) → c < cycles → byteAt page (suc k) (8 + c) ≡ glyph (charted values k c)
-  pub last-spaces : (k : ℕ) → k < count → (column : ℕ) → 8 + cycles ≤ column → column < lineColumns → byteAt page (suc k) column ≡ space
+  pub two-spaces : (k : ℕ) → k < count → (column : ℕ) → numberColumns ≤ column → column < valueColumn → byteAt page (suc k) column ≡ space
+  pub values-shown : (k : ℕ) → k < count → (c : ℕ) → c < cycles → byteAt page (suc k) (valueColumn + c) ≡ glyph (charted values k c)
+  pub last-spaces : (k : ℕ) → k < count → (column : ℕ) → valueColumn + cycles ≤ column → column < lineColumns → byteAt page (suc k) column ≡ space
   -- "Bytes of the page buffer after the last line keep their values."
   pub others : (place : ℕ) → lineBytes * suc count ≤ place → getD page place 0 ≡ getD old place 0

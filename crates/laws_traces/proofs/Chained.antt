@@ -5,13 +5,13 @@ use mathlib.Core.Bool.{true}
 use mathlib.Core.List.{List}
 use native.Mathlib.Omega.{arith}
 use lib.ListN.{length, getD}
-use borrow.Author.Tests.{le-leb}
 use Rattle.logic.specs.Listed.{listed}
 use Rattle.model.specs.Refusal.{Check, pass}
 use Rattle.model.proofs.Refusals.{first-left, first-right, first-both, unless-true, unless-pass, below-all}
 use Rattle.session_answers.specs.Answers.{checkBits}
 use Rattle.session_answers.specs.Left.{leftAfter}
 use Rattle.session_answers.proofs.Left.{left-done}
+use Rattle.session_answers.proofs.Recorded.{recorded-pass}
 use Rattle.session_answers.proofs.Calls.{done-passed, passed-done}
 use Rattle.traces.specs.Turned.{valuesLength, blockLength, recorded, turned, turnedBack, unusedClear}
 use Rattle.traces.specs.Checks.{sizesCheck, valuesCheck, turnCheck, turnBackCheck}
@@ -94,4 +94,4 @@ module _ {block values others left block′ : List ℕ} {count bits bits′ : �
           first-both _ _
           (sizes-again values block (turnedBack block count) others count (first-left _ _ accepted) (back-length block count) long)
           (below-all count _
-          (λ c low. unless-pass _ 42 _ (le-leb _ 3 (back-small block count c (omega (arith, right .count-high))))))
+          (λ c low. recorded-pass _ (back-small block count c (omega (arith, right .count-high)))))

@@ -6,6 +6,7 @@ use mathlib.Core.List.{[], _∷_}
 use Rattle.logic.specs.Test.{_and_, _or_, all}
 use Rattle.logic.specs.Listed.{listed}
 use Rattle.model.specs.Refusal.{fail, first, unless, firstBelow}
+use Rattle.session_answers.specs.Recorded.{recordedCheck}
 use Rattle.traces.specs.Bits.{bit, bits}
 use Rattle.traces.specs.Turned.{recorded, turnedByte, turned, blockValue, unusedClear}
 use Rattle.traces.specs.Checks.{valuesCheck}
@@ -26,5 +27,5 @@ tenth-used = refl
 
 -- the first value above 3 within the count is returned
 pub first-above : valuesCheck (3 ∷ 4 ∷ 255 ∷ []) 3 ≡ fail 42 4
-unfolding valuesCheck firstBelow first unless
+unfolding valuesCheck recordedCheck firstBelow first unless
 first-above = refl

@@ -1,9 +1,8 @@
 -- Laws of `listed`: a list is what its elements are, and a store changes one of them.
-use Prim.Native.Nat.{ℕ, zero, suc, _+_, _<_}
+use Prim.Native.Nat.{ℕ, zero, suc, _<_}
 use mathlib.Core.Path.{_≡_, refl, _∙_, ap}
 use mathlib.Core.List.{List, [], _∷_, _++_}
 use native.Mathlib.Omega.{arith}
-use native.Mathlib.Numerals.{add-one}
 use lib.ListN.{length, getD}
 use Rattle.logic.specs.Listed.{listed}
 
@@ -19,13 +18,10 @@ listed-at (suc n) f zero l = refl
 listed-at (suc n) f (suc i) l = listed-at n (λ k. f (suc k)) i (omega arith)
 
 -- one element more
-pub listed-more : (n : ℕ) (f : ℕ → ℕ) → listed n f ++ f n ∷ [] ≡ listed (n + 1) f
+pub listed-more : (n : ℕ) (f : ℕ → ℕ) → listed n f ++ f n ∷ [] ≡ listed (suc n) f
 unfolding listed
-listed-more n f = rw add-one (go n f)
-  where
-    go : (n : ℕ) (f : ℕ → ℕ) → listed n f ++ f n ∷ [] ≡ listed (suc n) f
-    go zero f = refl
-    go (suc n) f = ap (λ (r : List ℕ). f 0 ∷ r) (go n (λ k. f (suc k)))
+listed-more zero f = refl
+listed-more (suc n) f = ap (λ (r : List ℕ). f 0 ∷ r) (listed-more n (λ k. f (suc k)))
 
 -- a list is its elements
 pub is-listed : (l : List ℕ) (n : ℕ) (f : ℕ → ℕ) → length l ≡ n → ((i : ℕ) → i < n → getD l i 0 ≡ f i) → l ≡ listed n f

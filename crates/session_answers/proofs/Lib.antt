@@ -1,3 +1,4 @@
 pub mod Bits
 pub mod Left
+pub mod Recorded
 pub mod Calls

@@ -1,3 +1,4 @@
 pub mod Answers
 pub mod Apart
 pub mod Left
+pub mod Recorded

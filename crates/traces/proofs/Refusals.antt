@@ -1,17 +1,17 @@
--- Laws of the refusals: each length, the count and each value decide as the code asks for them.
-use Prim.Native.Nat.{ℕ, _+_, _≤_, _<_}
-use mathlib.Core.Path.{_≡_, refl, sym, subst}
+-- Laws of the refusals: each length and the count decide as the code asks for them, and what a check that passed tells.
+use Prim.Native.Nat.{ℕ, _≤_, _<_}
+use mathlib.Core.Path.{_≡_}
 use mathlib.Core.List.{List}
 use native.Mathlib.Omega.{arith}
-use native.Mathlib.Decide.{ℕ-discrete}
-use lib.Dec.{leb}
 use lib.ListN.{length, getD}
 use borrow.Author.Tests.{eqb-true, ne-eqb, le-leb, lt-leb, leb-true}
 use Rattle.logic.specs.Test.{_and_}
 use Rattle.logic.proofs.Tests.{and-left, and-right}
-use Rattle.model.specs.Refusal.{Check, pass, fail, first, unless, firstBelow}
+use Rattle.model.specs.Refusal.{Check, pass, fail, first, unless}
 use Rattle.model.specs.Session.{sameLengths}
-use Rattle.model.proofs.Refusals.{first-left, first-right, unless-true, unless-pass, below-pass, below-all, below-first}
+use Rattle.model.proofs.Refusals.{first-left, first-right, unless-true, below-pass}
+use Rattle.session_answers.specs.Recorded.{recordedCheck}
+use Rattle.session_answers.proofs.Recorded.{recorded-legal}
 use Rattle.traces.specs.Turned.{mostCycles, valuesLength, blockLength}
 use Rattle.traces.specs.Checks.{turnLent, turnFixed, countRight, sizesCheck, valuesCheck}
 
@@ -59,30 +59,10 @@ module _ (values block : List ℕ) (count : ℕ) where
       }
 
 module _ (values : List ℕ) where
-  abbrev judged : ℕ → Check
-  judged c = unless (leb (getD values c 0) 3) 42 (getD values c 0)
-
-  pub values-none : valuesCheck values 0 ≡ pass
-  unfolding valuesCheck firstBelow
-  values-none = refl
-
-  -- one value more is legal
-  pub values-more : (c : ℕ) → valuesCheck values c ≡ pass → getD values c 0 ≤ 3 → valuesCheck values (c + 1) ≡ pass
-  unfolding valuesCheck
-  values-more c before legal = below-all (c + 1) judged (λ k low. at k low (ℕ-discrete k c))
-    where
-      at : (k : ℕ) → k < c + 1 → Dec (k ≡ c) → judged k ≡ pass
-      at k low (yes e) = subst (λ (m : ℕ). judged m ≡ pass) (sym e) (unless-pass _ 42 _ (le-leb (getD values c 0) 3 legal))
-      at k low (no d) = below-pass c judged before k (omega arith)
-
-  -- the first that is above 3
-  pub value-above : (count c : ℕ) → c < count → valuesCheck values c ≡ pass → 3 < getD values c 0 → valuesCheck values count ≡ fail 42 (getD values c 0)
-  unfolding valuesCheck unless
-  value-above count c low before above =
-      below-first count judged
-      (record { at = c; low = low; fails = rw (lt-leb (getD values c 0) 3 above); before = below-pass c judged before })
+  abbrev pub judged : ℕ → Check
+  judged c = recordedCheck (getD values c 0)
 
   -- none within the count is above 3
   pub values-legal : (count : ℕ) → valuesCheck values count ≡ pass → (c : ℕ) → c < count → getD values c 0 ≤ 3
   unfolding valuesCheck
-  values-legal count e c low = leb-true (getD values c 0) 3 (unless-true _ 42 _ (below-pass count judged e c low))
+  values-legal count e c low = recorded-legal (getD values c 0) (below-pass count judged e c low)

@@ -7,6 +7,7 @@ use lib.ListN.{length, getD}
 use Rattle.logic.specs.Test.{_and_}
 use Rattle.model.specs.Refusal.{Check, first, unless, firstBelow}
 use Rattle.model.specs.Session.{Lengths, sameLengths}
+use Rattle.session_answers.specs.Recorded.{recordedCheck}
 use Rattle.traces.specs.Turned.{mostCycles, valuesLength, blockLength, unusedClear}
 
 -- the lengths lent, those of the values and of the block, and the fixed ones
@@ -26,7 +27,7 @@ sizesCheck values block count = first (unless (sameLengths (turnLent values bloc
 
 -- "42 then returns the first value above 3", of those within the count
 unfoldable pub valuesCheck : List ℕ → ℕ → Check
-valuesCheck values count = firstBelow count (λ c. unless (leb (getD values c 0) 3) 42 (getD values c 0))
+valuesCheck values count = firstBelow count (λ c. recordedCheck (getD values c 0))
 
 unfoldable pub turnCheck : List ℕ → List ℕ → ℕ → Check
 turnCheck values block count = first (sizesCheck values block count) (valuesCheck values count)

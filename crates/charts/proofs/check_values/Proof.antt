@@ -4,10 +4,11 @@ use mathlib.Core.Path.{_≡_, refl, _∙_, ap}
 use native.Mathlib.Omega.{arith}
 use Rattle.model.specs.Refusal.{pass, firstBelow}
 use Rattle.file_lines.proofs.Lines.{lines-go-on, lines-stop, lines-end}
+use Rattle.session_answers.proofs.Recorded.{recorded-pass}
 use Rattle.charts.specs.Checks.{valueCheck, rowCheck, rowsCheck}
 use Rattle.charts.specs.Answer.{chartRefusal}
 use Rattle.charts.specs.declared.ChartAnswer.the-variants.{Done}
-use Rattle.charts.proofs.Refusals.{value-right, row-right, row-wrong}
+use Rattle.charts.proofs.Refusals.{row-right, row-wrong}
 use borrow.Author.Needs.{needs}
 use Rattle.charts.proofs.check_values.Statement.{statement}
 use Rattle.charts.proofs.check_values.Tie as tie
@@ -33,9 +34,10 @@ unfolding firstBelow
 loop-holds c = (refl, omega arith, refl)
 
 loop-again : tie.Need-loop-again Inv-loop μ-loop Inv-lines μ-lines
+unfolding valueCheck
 loop-again c =
     let loop = c .before .before .before .loop in
-    (loop .inv .0, omega arith, lines-go-on _ _ (loop .inv .2) (value-right _ _ (loop .c) (c .if1 .left)))
+    (loop .inv .0, omega arith, lines-go-on _ _ (loop .inv .2) (recorded-pass _ (c .if1 .left)))
 
 lines-again : tie.Need-lines-again Inv-loop μ-loop Inv-lines μ-lines
 lines-again c =

@@ -1,15 +1,18 @@
 -- The invariant: the values of c cycles are stored.
 use Prim.Native.Nat.{_-_, _+_}
+use mathlib.Core.Path.{refl, _∙_, ap}
+use mathlib.Core.List.{[], _∷_}
 use native.Mathlib.Omega.{arith}
-use lib.ListN.{getD}
+use lib.ListN.{getD, set}
+use lib.Seq.{sets}
 use Rattle.charts.specs.Page.{glyph}
-use Rattle.charts.proofs.Writing.{StoredUpTo, stored-starts, stored-length, stored-more, stored-ends}
+use Rattle.charts.proofs.Writing.{bytes-joined, StoredUpTo, stored-starts, stored-length, stored-more, stored-ends}
 use borrow.Author.Needs.{needs}
 use Rattle.charts.proofs.write_glyphs.Statement.{statement}
 use Rattle.charts.proofs.write_glyphs.Tie as tie
 
 abbrev Inv-loop : tie.InvT-loop
-Inv-loop page₀ at values from cycles c₀ page c = StoredUpTo page₀ at (λ j. glyph (getD values (from + j) 0)) cycles c page
+Inv-loop page₀ at values from cycles c₀ page c = StoredUpTo page₀ at (λ j. glyph (getD values (from + j) 0) ∷ []) cycles c page
 
 abbrev μ-loop : tie.MeasureT-loop
 μ-loop page₀ at values from cycles c₀ page c = cycles - c
@@ -23,13 +26,15 @@ slice-write-page c =
     omega (arith, stored-length (test .before .loop .inv), test .before .before .before .before .pre .0, test .loop-test .taken)
 
 loop-again : tie.Need-loop-again Inv-loop μ-loop
-loop-again c = stored-more (c .before .before .before .loop .inv) (c .before .before .loop-test .taken) (c .glyph .ensures)
+loop-again c =
+    let loop = c .before .before .before .loop in
+    stored-more (loop .inv) 1 (λ _. refl) (c .before .before .loop-test .taken) (omega arith) (ap (set (loop .page) _) (c .glyph .ensures))
 
 same-length : tie.Need-same-length Inv-loop μ-loop
 same-length c = stored-length (c .before .loop .inv)
 
 returns : tie.Need-returns Inv-loop μ-loop
-returns c = stored-ends (c .before .loop .inv) (c .loop-test .left)
+returns c = stored-ends (c .before .loop .inv) (c .loop-test .left) ∙ ap (sets _ _) (bytes-joined _ _)
 
 pub write-glyphs-spec : {M : Type 1} → statement M
 write-glyphs-spec =
