@@ -1,11 +1,9 @@
--- What the loaded buffers hold: the module and the network of the accepted files, each signal's value in hand and its place, and tables in
--- range.
+-- What the loaded buffers hold: the module and the network of the accepted files, each signal's value in hand and its place.
 use Prim.Native.Nat.{ℕ, zero, suc, _+_, _/_, _%_, _<_, _≤_}
 use mathlib.Core.Path.{_≡_, refl, _∙_, ap}
 use mathlib.Core.List.{List}
-use mathlib.Core.Logic.{⊎-map}
 use native.Mathlib.Omega.{arith}
-use lib.ListN.{getD}
+use lib.ListN.{length, getD}
 use Rattle.logic.proofs.Listed.{listed-length, listed-at}
 use Rattle.gates.specs.Gate.{gate}
 use Rattle.model.specs.Refusal.{pass}
@@ -13,7 +11,7 @@ use Rattle.model.specs.Files.{Files}
 use Rattle.model.specs.Network.{Network, Signal}
 use Rattle.model.specs.Netlist.{netField, netSize, network, codes}
 use Rattle.model.specs.Value.{start}
-use Rattle.model.specs.Module.{Module, At, Laid}
+use Rattle.model.specs.Module.{Module, At}
 use Rattle.model.specs.ModuleFile.{modProcessors, modSlots, moduleOf, modCheck}
 use Rattle.model.specs.Acceptance.{panelLimit, networkOf, moduleOfFiles, givenOf, Accepted}
 use Rattle.model.proofs.Accepted.{mod-accepted, mod-processors, mod-slots, mod-scheduled}
@@ -21,7 +19,7 @@ use Rattle.model.specs.Checked.{Checked}
 use Rattle.model.proofs.Checked.{files-checked, checked-size}
 use Rattle.buffers_tables.specs.Panel.{panelLength, panelStride, signalsPlace, processorsPlace, slotsPlace, finishedPlace, watchedPlace, maskPlace, headBytes, kindColumn, codesColumn, handColumn, processorColumn, slotColumn, signalStart, signalByte, signalOf, columnOf, signalsIn, slotsIn, finishedIn, watchedIn, maskIn, kindIn, codesIn, handIn, processorIn, slotIn}
 use Rattle.buffers_tables.specs.Program.{programLength, lineStride, signalColumn, operandColumn, sendColumn, senderColumn, lineIn, lineProcessor, lineSlot, lineColumn, lineBytes, signalAt, partAt, locationAt}
-use Rattle.buffers_tables.specs.Tables.{moduleIn, networkIn, Tables}
+use Rattle.buffers_tables.specs.Tables.{moduleIn, networkIn}
 use Rattle.buffers_tables.specs.Holding.{SameLines, Holding}
 use Rattle.buffers_tables.proofs.Places.{at-signal, at-column, byte-low, line-low, at-line-processor, at-line-slot, at-line-column}
 use Rattle.buffers_load_files.specs.Loaded.{timeZero, placeOf, placedBytes, panelByte, panelWith, panelOf, programByte, programFrom, programOf}
@@ -31,27 +29,6 @@ use Rattle.buffers_load_panel.proofs.Panel.{panel-signal}
 use Rattle.buffers_load_panel.proofs.Places.{place-there, place-has}
 use Rattle.buffers_load_files.proofs.Fields.{schedules}
 use Rattle.buffers_load.proofs.Opening.{zeroth-is}
-
--- lines in range stay so
-same-laid : {a b : Module} {x y : Network} → SameLines a b → x .size ≡ y .size → Laid y b → Laid x a
-same-laid {a} {b} {x} {y} same size laid =
-    record {
-      signals = λ p i h. omega (arith, same .signals p i (at h), laid .signals p i (at h), size);
-      parts = λ p i j h l.
-          ⊎-map (λ (k : b .part p i j ≤ 3). omega (arith, same .parts p i j (at h) l)) (λ k. same .parts p i j (at h) l ∙ k)
-          (laid .parts p i j (at h) l);
-      locations = λ p i j h l. omega (arith, same .locations p i j (at h) l, laid .locations p i j (at h) l, same .slots);
-      send-parts = λ p i h.
-          ⊎-map (λ (k : b .sendPart p i ≤ 1). omega (arith, same .send-parts p i (at h))) (λ k. same .send-parts p i (at h) ∙ k)
-          (laid .send-parts p i (at h));
-      send-locations = λ p i h. omega (arith, same .send-locations p i (at h), laid .send-locations p i (at h), same .slots);
-      senders = λ p i h.
-          ⊎-map (λ (k : b .sender p i < b .processors). omega (arith, same .senders p i (at h), same .processors))
-          (λ k. same .senders p i (at h) ∙ k) (laid .senders p i (at h));
-    }
-  where
-    at : {p i : ℕ} → At a p i → At b p i
-    at h = record { processor = omega (arith, h .processor, same .processors); slot = omega (arith, h .slot, same .slots) }
 
 -- a network has the size of another, and at every signal its kind and its gate; the panel has each signal's value in hand, and a place
 -- where the module has it
@@ -204,18 +181,17 @@ module _ {limit : ℕ} (few : limit ≤ panelLimit) (files : Files) (accepted : 
       fits : ModuleChecked modfile
       fits = schedules net modfile n m
 
-  -- what the machine needs of the tables
-  pub loaded-tables : Tables (panelOf files) (programOf files)
-  unfolding panelOf panelWith programFrom
-  loaded-tables =
-      record {
-        panel-size = listed-length panelLength _;
-        program-size = listed-length programLength _;
-        signals-high = omega (arith, size-there, checked-size net n);
-        processors-high = omega (arith, head-there processorsPlace (omega arith), mod-processors (networkOf files) modfile m);
-        slots-high = omega (arith, slots-there, mod-slots (networkOf files) modfile m);
-        laid = same-laid loaded-module (loaded-network .size) (mod-scheduled (networkOf files) modfile m .laid);
-      }
+  -- the lengths of the tables, and N
+  pub loaded-panel-size : length (panelOf files) ≡ panelLength
+  unfolding panelOf panelWith
+  loaded-panel-size = listed-length panelLength _
+
+  pub loaded-program-size : length (programOf files) ≡ programLength
+  unfolding programFrom
+  loaded-program-size = listed-length programLength _
+
+  pub loaded-few : signalsIn (panelOf files) ≤ 4096
+  loaded-few = omega (arith, size-there, checked-size net n)
 
   -- the tables hold the files' network and module
   pub loaded-holding : Holding (networkOf files) (moduleOfFiles files) (panelOf files) (programOf files)

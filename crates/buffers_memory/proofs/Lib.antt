@@ -4,3 +4,4 @@ pub mod Regions
 pub mod Halves
 pub mod Near
 pub mod Within
+pub mod Values

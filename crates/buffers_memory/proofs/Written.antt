@@ -12,6 +12,7 @@ use borrow.Author.Tests.{lt-ltb, le-ltb, ltb-true, ltb-false}
 use Rattle.logic.specs.Test.{_and_}
 use Rattle.logic.proofs.Listed.{listed-length, listed-at, is-listed}
 use Rattle.logic.proofs.Judged.{and-false}
+use Rattle.gates.specs.Value.{Code}
 use Rattle.model.specs.Machine.{Memory, fetch}
 use Rattle.buffers_memory.specs.Memory.{memoryLength, processorParts, blank, place, byteProcessor, bytePart, byteLocation, memoryOf, writtenAt, written, MemoryBytes}
 
@@ -151,16 +152,34 @@ written-same test w u old agree =
     go p part k a true t = here p part k a t (ltb part blank) refl
     go p part k a false t = written-else test w old p part k t ∙ sym (written-else test u old p part k t)
 
--- the fifth parts stay blank
-pub written-bytes : (test : ℕ → ℕ → Bool) (w : Memory) (old : List ℕ) → MemoryBytes old → MemoryBytes (written test w old)
-written-bytes test w old h =
+-- a memory that holds values where the test passes
+abbrev pub Coded : (ℕ → ℕ → Bool) → Memory → Type 0
+Coded test w = (p part k : ℕ) → Place p part k → part < blank → test p k ≡ true → Code (fetch w p part k)
+
+-- the bytes stay values, and the fifth parts blank
+pub written-bytes : (test : ℕ → ℕ → Bool) (w : Memory) (old : List ℕ) → Coded test w → MemoryBytes old → MemoryBytes (written test w old)
+written-bytes test w old coded h =
     record {
       size = written-length test w old;
+      values = λ a l. subst (λ (x : ℕ). Code (getD (written test w old) x 0)) (sym (byte-is a)) (at (byte-place a l));
       blanks = λ p l.
           written-at test w old (record { processor-low = l; part-low = omega arith; location-low = omega arith })
           ∙ written-blank test w old p blank 0 (omega arith)
           ∙ h .blanks p l;
     }
+  where
+    at : {p part k : ℕ} → Place p part k → Code (getD (written test w old) (place p part k) 0)
+    at {p} {part} {k} there = subst Code (sym (written-at test w old there)) (go (test p k) refl (ltb part blank) refl)
+      where
+        kept : Code (getD old (place p part k) 0)
+        kept = h .values (place p part k) (place-low there)
+
+        go : (t : Bool) → test p k ≡ t → (b : Bool) → ltb part blank ≡ b → Code (writtenAt test w old p part k)
+        go true t true b =
+            let l = ltb-true part blank b in
+            subst Code (sym (written-here test w old p part k t l)) (coded p part k there l t)
+        go true t false b = subst Code (sym (written-blank test w old p part k (ltb-false part blank b))) kept
+        go false t b e = subst Code (sym (written-else test w old p part k t)) kept
 
 -- what is written last stays
 pub written-over : (test : ℕ → ℕ → Bool) (w u : Memory) (old : List ℕ) → written test u (written test w old) ≡ written test u old
@@ -185,5 +204,5 @@ written-self test l size = is-written test (memoryOf l) l l size (λ p part k a.
     go p part k true t false b = rw (t, b)
     go p part k false t b e = rw t
 
-pub bytes-written : (test : ℕ → ℕ → Bool) (w : Memory) (old l : List ℕ) → MemoryBytes old → l ≡ written test w old → MemoryBytes l
-bytes-written test w old l h e = subst MemoryBytes (sym e) (written-bytes test w old h)
+pub bytes-written : (test : ℕ → ℕ → Bool) (w : Memory) (old l : List ℕ) → Coded test w → MemoryBytes old → l ≡ written test w old → MemoryBytes l
+bytes-written test w old l coded h e = subst MemoryBytes (sym e) (written-bytes test w old coded h)

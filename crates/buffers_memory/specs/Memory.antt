@@ -9,6 +9,7 @@ use lib.ListN.{length, getD}
 use Rattle.logic.specs.Test.{_and_}
 use Rattle.logic.specs.Choice.{if_then_else_}
 use Rattle.logic.specs.Listed.{listed}
+use Rattle.gates.specs.Value.{Code}
 use Rattle.model.specs.Module.{localEarlier, localPresent, switchEarlier, switchPresent}
 use Rattle.model.specs.Machine.{Memory, nothing, fetch}
 use Rattle.instruction.specs.declared.Operand.{Operand}
@@ -66,9 +67,10 @@ fetchedPart (SwitchEarlier k) = switchEarlier
 fetchedPart (SwitchPresent k) = switchPresent
 fetchedPart None = blank
 
--- the bytes are of the right number, and the fifth parts are blank
+-- the bytes are of the right number, each is a value, and the fifth parts are blank
 pub record MemoryBytes (bytes : List ℕ) : Type 0 where
   pub size : length bytes ≡ memoryLength
+  pub values : (a : ℕ) → a < memoryLength → Code (getD bytes a 0)
   pub blanks : (p : ℕ) → p < 16 → getD bytes (place p blank 0) 0 ≡ nothing
 
 -- what the byte of location k of a part of processor p is after the memory w is written over old where the test of processor and

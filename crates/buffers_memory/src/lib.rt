@@ -3,6 +3,7 @@
 ghost use mathlib.Core.Path.{_≡_};
 ghost use Prim.Native.Nat.{_+_, _*_, _<_, _≤_};
 ghost use lib.ListN.{length, getD, set};
+ghost use Rattle.gates.specs.Value.{Code};
 ghost use Rattle.model.specs.Machine.{fetch as fetched, alternate as alternated};
 ghost use Rattle.instruction.specs.Operand.{partOf, locationOf};
 ghost use Rattle.buffers_memory.specs.Memory.{memoryLength, partStride, blank, place, memoryOf, fetchedPart, written, here, below, withMemory, MemoryBytes};
@@ -56,7 +57,7 @@ fn location_of(a: Operand) -> usize
 pub fn fetch(memory: &[u8], processor: usize, a: Operand) -> u8
     requires { ⌜ MemoryBytes (now memory) ⌝ }
     requires { ⌜ processor < 16 ⌝ }
-    ensures { λ r. ⌜ r ≡ fetched (memoryOf (now (memory .entry))) processor (partOf a) (locationOf a) ⌝ }
+    ensures { λ r. ⌜ (r ≡ fetched (memoryOf (now (memory .entry))) processor (partOf a) (locationOf a)) × Code r ⌝ }
 {
     memory[PROCESSOR_STRIDE * processor + part_base(a) + location_of(a)]
 }

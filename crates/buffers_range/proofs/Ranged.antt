@@ -11,6 +11,7 @@ use borrow.Author.Tests.{leb-true, le-leb, le-ltb}
 use Rattle.logic.specs.Test.{_and_}
 use Rattle.logic.proofs.Tests.{and-true, and-left, and-right, all-at, all-true}
 use Rattle.logic.specs.Choice.{if_then_else_}
+use Rattle.gates.specs.Value.{Code}
 use Rattle.model.specs.Module.{At}
 use Rattle.buffers_memory.specs.Memory.{memoryLength, blank, place, byteProcessor, bytePart, byteLocation, within, MemoryBytes}
 use Rattle.buffers_memory.proofs.Written.{Place, place-low, at-processor, at-part, at-location, byte-place, byte-is}
@@ -25,7 +26,7 @@ use Rattle.buffers_range_memory.specs.Ranges.{memoryRanged}
 use Rattle.buffers_range.specs.Ranges.{ranged}
 use Rattle.logic.proofs.Judged.{and-false}
 use Rattle.buffers_runs.proofs.Runs.{zeros-true}
-use Rattle.buffers_range_panel.proofs.Numbers.{Head, Numbers, Panel, ranged-panel, panel-ranged}
+use Rattle.buffers_range_panel.proofs.Numbers.{Head, Numbers, Panel, ranged-panel, panel-ranged, legal-codes}
 use Rattle.buffers_range.proofs.Laid.{Line, ranged-line, line-ranged, lines-laid}
 use Rattle.buffers_range_program.proofs.Slots.{lineTest, used, used-line, unused-byte}
 use Rattle.buffers_range_memory.proofs.Parts.{limit}
@@ -150,12 +151,15 @@ module _ (panel program memory : List ℕ) where
         processors-high = head-ranged h .processors-high;
         slots-high = head-ranged h .slots-high;
         laid = lines-laid (networkIn panel program) (moduleIn panel program) (program-in-range h .lines);
+        codes = λ s low high. legal-codes panel s (signal-ranged h s low high .codes);
+        hands = λ s low high. signal-ranged h s low high .hand-high;
       }
 
   pub ranged-memory : length memory ≡ memoryLength → ranged panel program memory ≡ true → MemoryBytes memory
   ranged-memory e h =
       record {
         size = e;
+        values = λ a l. subst (λ (x : ℕ). Code (getD memory x 0)) (sym (byte-is a)) (memory-in-range h .values (byte-place a l));
         blanks = λ p l.
             let there : Place p blank 0 = record { processor-low = l; part-low = omega arith; location-low = omega arith } in
             memory-in-range h .rest there

@@ -12,8 +12,9 @@ use Rattle.logic.specs.Test.{_and_, all}
 use Rattle.logic.proofs.Tests.{and-true, and-left, and-right, all-at, all-true}
 use Rattle.gates.specs.Translation.{isTranslation}
 use Rattle.gates.specs.Function.{isFunction}
+use Rattle.gates.specs.Gate.{Legal}
 use Rattle.model.specs.Network.{input, unitDelay, rankOrder}
-use Rattle.buffers_tables.specs.Panel.{panelLength, panelStride, codesColumn, handColumn, signalStart, signalByte, columnIn, signalsIn, processorsIn, slotsIn, watchedIn, maskIn, kindIn, handIn, processorIn, slotIn}
+use Rattle.buffers_tables.specs.Panel.{panelLength, panelStride, codesColumn, handColumn, signalStart, signalByte, columnIn, signalsIn, processorsIn, slotsIn, watchedIn, maskIn, kindIn, codesIn, handIn, processorIn, slotIn}
 use Rattle.buffers_runs.specs.Zeros.{zeros}
 use Rattle.buffers_range_panel.specs.Ranges.{headRanged, codesRanged, signalRanged, panelRanged}
 use Rattle.buffers_runs.proofs.Runs.{zeros-byte, zeros-true}
@@ -197,3 +198,20 @@ module _ (panel : List ℕ) (s : ℕ) where
 
   pub codes-translation : codesRanged panel s ≡ true → (k : ℕ) → k < 5 → isTranslation (getD panel (signalByte s (codesColumn + 1) + k) 0) ≡ true
   codes-translation h k l = all-at (λ j. isTranslation (getD panel (signalByte s (codesColumn + 1) + j) 0)) 5 (and-right _ _ (codes-supplied h)) k l
+
+  pub legal-codes : codesRanged panel s ≡ true → Legal (codesIn panel s)
+  unfolding isFunction isTranslation
+  legal-codes h =
+      record {
+        function-high = leb-true _ 4 (codes-function h);
+        first-high = translation 0 (codesColumn + 1) (omega arith) refl;
+        second-high = translation 1 (codesColumn + 2) (omega arith) refl;
+        third-high = translation 2 (codesColumn + 3) (omega arith) refl;
+        fourth-high = translation 3 (codesColumn + 4) (omega arith) refl;
+        last-high = translation 4 (codesColumn + 5) (omega arith) refl;
+      }
+    where
+      translation : (k c : ℕ) → k < 5 → c ≡ codesColumn + 1 + k → columnIn panel s c ≤ 6
+      translation k c l e =
+          let there : signalByte s (codesColumn + 1) + k ≡ signalByte s c = omega (arith, e) in
+          leb-true _ 6 (subst (λ (x : ℕ). isTranslation (getD panel x 0) ≡ true) there (codes-translation h k l))

@@ -5,10 +5,11 @@ use mathlib.Core.List.{List}
 use lib.Dec.{leb}
 use lib.ListN.{length}
 use Rattle.logic.specs.Choice.{if_then_else_}
-use Rattle.gates.specs.Gate.{gate}
+use Rattle.gates.specs.Value.{Code}
+use Rattle.gates.specs.Gate.{gate, Legal}
 use Rattle.model.specs.Network.{Network}
 use Rattle.model.specs.Module.{Module, Laid, localPresent, switchPresent, sentSignal}
-use Rattle.buffers_tables.specs.Panel.{panelLength, signalsIn, processorsIn, slotsIn, kindIn, codesIn, processorIn, slotIn}
+use Rattle.buffers_tables.specs.Panel.{panelLength, signalsIn, processorsIn, slotsIn, kindIn, codesIn, handIn, processorIn, slotIn}
 use Rattle.buffers_tables.specs.Program.{programLength, signalAt, partAt, locationAt, sendPartAt, sendLocationAt, senderAt}
 
 unfoldable pub moduleIn : List ℕ → List ℕ → Module
@@ -41,7 +42,7 @@ networkIn panel program =
       gate = λ s. gate (codesIn panel s);
     }
 
--- Tables in range, as far as the machine needs it: lengths, sizes, and the lines' numbers
+-- Tables in range, as far as the machine needs it: lengths, sizes, the lines' numbers, and each signal's codes and value in hand
 pub record Tables (panel program : List ℕ) : Type 0 where
   pub panel-size : length panel ≡ panelLength
   pub program-size : length program ≡ programLength
@@ -49,3 +50,5 @@ pub record Tables (panel program : List ℕ) : Type 0 where
   pub processors-high : processorsIn panel ≤ 16
   pub slots-high : slotsIn panel ≤ 256
   pub laid : Laid (networkIn panel program) (moduleIn panel program)
+  pub codes : (s : ℕ) → 1 ≤ s → s ≤ signalsIn panel → Legal (codesIn panel s)
+  pub hands : (s : ℕ) → 1 ≤ s → s ≤ signalsIn panel → Code (handIn panel s)

@@ -1,4 +1,2 @@
-pub mod Values
-pub mod Counted
-pub mod Translations
 pub mod Legal
+pub mod Followed

@@ -2,3 +2,4 @@ pub mod Value
 pub mod Translation
 pub mod Function
 pub mod Gate
+pub mod Table

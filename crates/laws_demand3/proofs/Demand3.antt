@@ -30,7 +30,7 @@ use Rattle.buffers_memory.proofs.Written.{written-length}
 use Rattle.buffers_tables.specs.Panel.{maskIn}
 use Rattle.buffers_lengths.specs.Lengths.{fixed}
 use Rattle.buffers_load_files.specs.Loaded.{panelOf, programOf, openingBytes}
-use Rattle.buffers_load.proofs.Loaded.{loaded-network, loaded-head, loaded-holding, loaded-tables}
+use Rattle.buffers_load.proofs.Loaded.{loaded-network, loaded-head, loaded-holding, loaded-panel-size, loaded-program-size}
 use Rattle.session_answers.specs.Answers.{answerBits, checkBits}
 use Rattle.session_opening.specs.Opened.{openingCheck, leftBy}
 use Rattle.session_state.specs.Header.{headIn}
@@ -89,14 +89,13 @@ module _ {limit : ℕ} (few : limit ≤ panelLimit) (files : Files) (accepted : 
   unfolding openingBytes
   opened-good =
       let range = opened-ranged few files accepted in
-      let tables = loaded-tables few files accepted in
       let holding = loaded-holding few files accepted in
       record {
         lengths =
             same-lengths opened
             (record {
-              panel-size = tables .panel-size;
-              program-size = tables .program-size;
+              panel-size = loaded-panel-size few files accepted;
+              program-size = loaded-program-size few files accepted;
               memory-size = written-length (within (modProcessors (files .MOD)) (modSlots (files .MOD))) (opening m (start n (givenOf files))) (listed memoryLength (λ a. 0));
             });
         range = range;

@@ -28,11 +28,11 @@ use Rattle.file_checks.proofs.write_refusal.Kinds.{ps as refusal-ps, r as refus
 use Rattle.file_checks.proofs.write_refusal.Reads.{Learnt as RefusalTells}
 
 -- a step
-pub step-more : (κs : Lfts 6) (a : Dens κs step-ps) (p : resT step-r κs .Denot) (left : AtExit (endedOf 6 step-ps step-r) κs)
-    → StepTells κs a p left → length (now (a .1 .1 .1 .1 .1 .1 .0)) ≡ pieceLength → {pieces : List (List ℕ)}
-    → Steps (now (a .1 .0)) (now (a .1 .1 .1 .0)) (p .lister) (now (left .1 .1 .0)) (now (left .1 .1 .1 .1 .0)) (now (left .1 .1 .1 .1 .1 .0)) pieces
-    → Steps (now (a .1 .0)) (now (a .1 .1 .1 .0)) (a .0) (now (a .1 .1 .0)) (now (a .1 .1 .1 .1 .0)) (now (a .1 .1 .1 .1 .1 .0))
-    (take (p .length) (now (left .1 .1 .1 .1 .1 .1 .0)) ∷ pieces)
+pub step-more : (κs : Lfts 8) (a : Dens κs step-ps) (p : resT step-r κs .Denot) (left : AtExit (endedOf 8 step-ps step-r) κs)
+    → StepTells κs a p left → length (now (a .1 .1 .1 .1 .1 .1 .1 .1 .0)) ≡ pieceLength → {pieces : List (List ℕ)}
+    → Steps (now (a .1 .1 .1 .0)) (now (a .1 .1 .1 .1 .1 .0)) (p .lister) (now (left .1 .1 .1 .1 .0)) (now (left .1 .1 .1 .1 .1 .1 .0)) (now (left .1 .1 .1 .1 .1 .1 .1 .0)) pieces
+    → Steps (now (a .1 .1 .1 .0)) (now (a .1 .1 .1 .1 .1 .0)) (a .0) (now (a .1 .1 .1 .1 .0)) (now (a .1 .1 .1 .1 .1 .1 .0)) (now (a .1 .1 .1 .1 .1 .1 .1 .0))
+    (take (p .length) (now (left .1 .1 .1 .1 .1 .1 .1 .1 .0)) ∷ pieces)
 step-more κs a p left told room rest = more _ p _ _ _ _ room told rest
 
 -- the opening

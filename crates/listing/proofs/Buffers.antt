@@ -34,7 +34,7 @@ use Rattle.buffers_tables.specs.Tables.{networkIn}
 use Rattle.buffers_tables.specs.Holding.{Holding}
 use Rattle.machine_run.specs.Running.{cycleIn}
 use Rattle.buffers_load_files.specs.Loaded.{panelOf, programOf}
-use Rattle.buffers_load.proofs.Loaded.{loaded-tables, loaded-holding, loaded-network}
+use Rattle.buffers_load.proofs.Loaded.{loaded-panel-size, loaded-few, loaded-holding, loaded-network}
 use Rattle.laws_values.proofs.Same.{cycle-same, near-trans}
 use Rattle.laws_values.proofs.Valued.{processors-few, slots-few}
 use Rattle.buffers_range.proofs.Ranged.{panel-in-range}
@@ -118,7 +118,7 @@ module _ (files : Files) where
     program = programOf files
 
     few : signalsIn loaded ≤ 4096
-    few = loaded-tables panel-few files accepted .signals-high
+    few = loaded-few panel-few files accepted
 
     -- the panel holds the files' network and module
     loaded-here : Holding n m loaded program
@@ -132,7 +132,7 @@ module _ (files : Files) where
     pub panel-loaded : loaded ≡ panelAt files 0
     unfolding panelAt networkIn
     panel-loaded =
-        sym (hands-own loaded (loaded-tables panel-few files accepted .panel-size)) ∙ hands-same _ _ loaded (λ s low high. hand s low high (decLt (n .size) s))
+        sym (hands-own loaded (loaded-panel-size panel-few files accepted)) ∙ hands-same _ _ loaded (λ s low high. hand s low high (decLt (n .size) s))
       where
         size-there : signalsIn loaded ≡ n .size
         size-there = loaded-here .signals .size

@@ -20,7 +20,7 @@ use Rattle.buffers_memory.specs.Memory.{memoryLength, within}
 use Rattle.buffers_memory.proofs.Written.{written-length}
 use Rattle.buffers_tables.specs.Panel.{maskIn}
 use Rattle.buffers_load_files.specs.Loaded.{panelOf, programOf, openingBytes}
-use Rattle.buffers_load.proofs.Loaded.{loaded-tables, loaded-head}
+use Rattle.buffers_load.proofs.Loaded.{loaded-panel-size, loaded-program-size, loaded-head}
 use Rattle.laws_opening.proofs.Opened.{opened-ranged}
 use Rattle.session_state.specs.Header.{headIn}
 use Rattle.session_state.specs.Carried.{headOf}
@@ -49,11 +49,10 @@ module _ (files : Files) (accepted : Accepted panelLimit files) where
   opened-right : RightBuffers panel program memory
   unfolding openingBytes
   opened-right =
-      let tables = loaded-tables panel-few files accepted in
       record {
         sizes = record {
-          panel-size = tables .panel-size;
-          program-size = tables .program-size;
+          panel-size = loaded-panel-size panel-few files accepted;
+          program-size = loaded-program-size panel-few files accepted;
           memory-size = written-length (within (modProcessors (files .MOD)) (modSlots (files .MOD))) (opening (moduleOfFiles files) (start (networkOf files) (givenOf files))) (listed memoryLength (λ a. 0));
         };
         range = opened-ranged panel-few files accepted;

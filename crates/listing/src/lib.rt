@@ -3,6 +3,7 @@
 ghost use mathlib.Core.Path.{_≡_};
 ghost use Prim.Native.Nat.{ℕ, _+_};
 ghost use lib.ListN.{length};
+ghost use Rattle.gates.specs.Table.{GateTables};
 ghost use Rattle.model.specs.Files.{Files, filesOf};
 ghost use Rattle.model.specs.Acceptance.{panelLimit, Accepted};
 ghost use Rattle.model.specs.Stimulus.{stimCount};
@@ -69,6 +70,8 @@ impl Lister {
     // The next piece: time 0; or the settings of the next time, one cycle and its changes; or the last line.
     pub fn step(
         self,
+        functions: &[u8],
+        translations: &[u8],
         stim: &[u8],
         panel: &mut [u8],
         program: &[u8],
@@ -78,6 +81,7 @@ impl Lister {
     ) -> Piece
         requires { ⌜ Standing self (now stim) (now panel) (now program) (now memory) (now shown) ⌝ }
         requires { ⌜ length (now out) ≡ pieceLength ⌝ }
+        requires { ⌜ GateTables (now functions) (now translations) ⌝ }
         ensures { λ r. ⌜ ((files : Files) (k : ℕ) → Stands files k self (now (stim .entry)) (now (panel .entry)) (now (program .entry)) (now (memory .entry)) (now (shown .entry)) → Gives files k (now (out .entry)) r (now (out .exit)) (now (stim .entry)) (now (panel .exit)) (now (program .entry)) (now (memory .exit)) (now (shown .exit))) ⌝ }
     {
         let session = self.session;
@@ -113,7 +117,7 @@ impl Lister {
         let settled = listing_cycle::take_settings(session, cursor, time, stim, panel);
         let ready = settled.session;
         let rest = settled.cursor;
-        let after = listing_cycle::run_one(ready, panel, program, memory);
+        let after = listing_cycle::run_one(functions, translations, ready, panel, program, memory);
         let length = listing_cycle::write_changes(time, panel, memory, shown, out);
         Piece {
             lister: Lister {

@@ -4,6 +4,7 @@ ghost use mathlib.Core.Path.{_≡_};
 ghost use Prim.Native.Nat.{ℕ, _+_, _≤_, _<_};
 ghost use lib.ListN.{length, getD, set};
 ghost use lib.Seq.{sets};
+ghost use Rattle.gates.specs.Table.{GateTables};
 ghost use Rattle.model.specs.Stimulus.{stimTime, stimCount, endTime};
 ghost use Rattle.buffers_memory.specs.Memory.{memoryOf, withMemory, MemoryBytes};
 ghost use Rattle.buffers_tables.specs.Panel.{panelLength, signalsIn, processorsIn, slotsIn, processorIn};
@@ -135,11 +136,19 @@ pub fn take_settings(
 }
 
 // One cycle with the values in hand: "run k cycles" with k = 1 and a mask that watches nothing.
-pub fn run_one(session: Session, panel: &[u8], program: &[u8], memory: &mut [u8]) -> Session
+pub fn run_one(
+    functions: &[u8],
+    translations: &[u8],
+    session: Session,
+    panel: &[u8],
+    program: &[u8],
+    memory: &mut [u8],
+) -> Session
     requires { ⌜ Ready session (now panel) (now program) (now memory) ⌝ }
+    requires { ⌜ GateTables (now functions) (now translations) ⌝ }
     ensures { λ r. ⌜ OneMore session r ⌝ }
     ensures { λ _. ⌜ now (memory .exit) ≡ withMemory (processorsIn (now (panel .entry))) (slotsIn (now (panel .entry))) (cycleIn (now (panel .entry)) (now (program .entry)) (memoryOf (now (memory .entry)))) (now (memory .entry)) ⌝ }
 {
-    let told = session.run(panel, program, memory, 1);
+    let told = session.run(functions, translations, panel, program, memory, 1);
     told.session
 }

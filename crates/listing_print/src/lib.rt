@@ -82,6 +82,8 @@ pub fn print_listing(
     requires { ⌜ now failed ≡ false ⌝ }
     ensures handed { λ _. ⌜ Handing (filesOf (now (net .entry)) (now (modfile .entry)) (now (stim .entry))) (now (parts .exit)) (now (failed .exit)) ⌝ }
 {
+    let functions = gates::functions();
+    let translations = gates::translations();
     let mut panel = panel_buffer();
     let mut program = program_buffer();
     let mut memory = memory_buffer();
@@ -101,6 +103,8 @@ pub fn print_listing(
     let count = listing::piece_count(end);
     for _ in 0..count {
         let next = lister.step(
+            &functions,
+            &translations,
             stim,
             &mut panel,
             &program,

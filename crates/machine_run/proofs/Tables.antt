@@ -4,11 +4,16 @@ use mathlib.Core.Path.{_≡_}
 use mathlib.Core.Bool.{Bool, true, false}
 use mathlib.Core.List.{List}
 use lib.ListN.{length}
-use Rattle.model.specs.Machine.{Memory}
+use Rattle.model.specs.Module.{Module}
+use Rattle.model.specs.Machine.{Memory, slots}
 use Rattle.model.specs.Session.{Watch, ticks, watched}
-use Rattle.buffers_memory.specs.Memory.{memoryLength, memoryOf, withMemory}
+use Rattle.model.proofs.Machine.{Small, slots-small, cycle-small}
+use Rattle.buffers_memory.specs.Memory.{memoryLength, memoryOf, within, withMemory, MemoryBytes}
+use Rattle.buffers_memory.proofs.Written.{bytes-written}
+use Rattle.buffers_memory.proofs.Values.{bytes-small, small-coded}
 use Rattle.buffers_tables.specs.Panel.{processorsIn, slotsIn, handIn, processorIn, slotIn}
 use Rattle.buffers_tables.specs.Tables.{Tables, networkIn, moduleIn}
+use Rattle.buffers_tables.proofs.Codes.{gates-small, hands-small}
 use Rattle.machine_run.specs.Running.{cycleIn, valueIn, runIn, Watching}
 use Rattle.machine_run.proofs.Cycles.{QuietTo, cycles-none, cycles-more, stop-told, quiet-more, ran-stopped, ran-whole}
 
@@ -21,6 +26,9 @@ module _ {panel program : List ℕ} (t : Tables panel program) (old : List ℕ) 
   abbrev bytes : Memory → List ℕ → List ℕ
   bytes w l = withMemory (processorsIn panel) (slotsIn panel) w l
 
+  abbrev m : Module
+  m = moduleIn panel program
+
   pub none-done : length old ≡ memoryLength → old ≡ bytes (after 0) old
   unfolding moduleIn
   none-done = cycles-none (networkIn panel program) (moduleIn panel program) (t .laid) (t .processors-high) (t .slots-high) (handIn panel) old
@@ -28,6 +36,26 @@ module _ {panel program : List ℕ} (t : Tables panel program) (old : List ℕ) 
   pub one-more : (j : ℕ) {l r : List ℕ} → l ≡ bytes (after j) old → r ≡ bytes (cycleIn panel program (memoryOf l)) l → r ≡ bytes (after (j + 1)) old
   unfolding moduleIn
   one-more j = cycles-more (networkIn panel program) (moduleIn panel program) (t .laid) (t .processors-high) (t .slots-high) (handIn panel) old _ _ j
+
+  -- slots and cycles leave values
+  module _ (values : MemoryBytes old) where
+    small : Small m (memoryOf old)
+    unfolding moduleIn
+    small = bytes-small m (t .processors-high) (t .slots-high) old values
+
+    left : {w : Memory} {r : List ℕ} → Small m w → r ≡ bytes w old → MemoryBytes r
+    unfolding moduleIn
+    left {w} fits = bytes-written (within (processorsIn panel) (slotsIn panel)) w old _ (small-coded m fits) values
+
+    pub slots-bytes : (c : ℕ) {r : List ℕ} → c ≤ slotsIn panel
+        → r ≡ bytes (slots (networkIn panel program) m (handIn panel) c (memoryOf old)) old → MemoryBytes r
+    unfolding moduleIn
+    slots-bytes c h =
+        left (slots-small (t .laid) (gates-small panel program) (handIn panel) (λ s g k. hands-small panel program t s g) small c h)
+
+    pub cycle-bytes : {r : List ℕ} → r ≡ bytes (cycleIn panel program (memoryOf old)) old → MemoryBytes r
+    cycle-bytes =
+        left (cycle-small (t .laid) (gates-small panel program) (handIn panel) (λ s g k. hands-small panel program t s g) small)
 
   module _ (watch : Watch) where
     abbrev stops : Memory → Bool

@@ -6,6 +6,7 @@ use instruction::Operand;
 ghost use mathlib.Core.Path.{_≡_};
 ghost use Prim.Native.Nat.{_<_, _≤_};
 ghost use lib.ListN.{length};
+ghost use Rattle.gates.specs.Table.{GateTables};
 ghost use Rattle.model.specs.Machine.{slots as slotsDone};
 ghost use Rattle.model.specs.Session.{watched};
 ghost use Rattle.buffers_memory.specs.Memory.{memoryOf, withMemory, MemoryBytes};
@@ -26,27 +27,61 @@ pub struct Ran {
 }
 
 // The slots of a cycle, one after the other.
-fn run_slots(panel: &[u8], program: &[u8], processors: usize, slots: u16, memory: &mut [u8])
+fn run_slots(
+    functions: &[u8],
+    translations: &[u8],
+    panel: &[u8],
+    program: &[u8],
+    processors: usize,
+    slots: u16,
+    memory: &mut [u8],
+)
     requires { ⌜ Tables (now panel) (now program) ⌝ }
     requires { ⌜ MemoryBytes (now memory) ⌝ }
     requires { ⌜ (processors ≡ processorsIn (now panel)) × (slots ≡ slotsIn (now panel)) ⌝ }
+    requires { ⌜ GateTables (now functions) (now translations) ⌝ }
     ensures { λ r. ⌜ now (memory .exit) ≡ withMemory (processorsIn (now (panel .entry))) (slotsIn (now (panel .entry))) (slotsDone (networkIn (now (panel .entry)) (now (program .entry))) (moduleIn (now (panel .entry)) (now (program .entry))) (handIn (now (panel .entry))) (slotsIn (now (panel .entry))) (memoryOf (now (memory .entry)))) (now (memory .entry)) ⌝ }
 {
     let mut i: u16 = 0;
     while i < slots {
-        machine_slot::run_slot(panel, program, processors, Slot(i), memory);
+        machine_slot::run_slot(
+            functions,
+            translations,
+            panel,
+            program,
+            processors,
+            Slot(i),
+            memory,
+        );
         i += 1;
     }
 }
 
 // One cycle: every slot, and then "Halves alternate".
-fn run_cycle(panel: &[u8], program: &[u8], processors: usize, slots: u16, memory: &mut [u8])
+fn run_cycle(
+    functions: &[u8],
+    translations: &[u8],
+    panel: &[u8],
+    program: &[u8],
+    processors: usize,
+    slots: u16,
+    memory: &mut [u8],
+)
     requires { ⌜ Tables (now panel) (now program) ⌝ }
     requires { ⌜ MemoryBytes (now memory) ⌝ }
     requires { ⌜ (processors ≡ processorsIn (now panel)) × (slots ≡ slotsIn (now panel)) ⌝ }
+    requires { ⌜ GateTables (now functions) (now translations) ⌝ }
     ensures { λ r. ⌜ now (memory .exit) ≡ withMemory (processorsIn (now (panel .entry))) (slotsIn (now (panel .entry))) (cycleIn (now (panel .entry)) (now (program .entry)) (memoryOf (now (memory .entry)))) (now (memory .entry)) ⌝ }
 {
-    run_slots(panel, program, processors, slots, memory);
+    run_slots(
+        functions,
+        translations,
+        panel,
+        program,
+        processors,
+        slots,
+        memory,
+    );
     buffers_memory::alternate(memory, processors, slots as usize);
 }
 
@@ -77,10 +112,19 @@ pub fn value_of(panel: &[u8], memory: &[u8], signal: u16) -> u8
 }
 
 // "A run stops after the first cycle whose end shows a watched value, else after k."
-pub fn run(panel: &[u8], program: &[u8], memory: &mut [u8], watch: Watch, cycles: Cycle) -> Ran
+pub fn run(
+    functions: &[u8],
+    translations: &[u8],
+    panel: &[u8],
+    program: &[u8],
+    memory: &mut [u8],
+    watch: Watch,
+    cycles: Cycle,
+) -> Ran
     requires { ⌜ Tables (now panel) (now program) ⌝ }
     requires { ⌜ Watching (now panel) (watchOf watch) ⌝ }
     requires { ⌜ MemoryBytes (now memory) ⌝ }
+    requires { ⌜ GateTables (now functions) (now translations) ⌝ }
     ensures { λ r. ⌜ (r .done .0 ≡ runIn (now (panel .entry)) (now (program .entry)) (watchOf watch) (cycles .0) (memoryOf (now (memory .entry))) .count) × (r .stopped ≡ runIn (now (panel .entry)) (now (program .entry)) (watchOf watch) (cycles .0) (memoryOf (now (memory .entry))) .stopped) × (now (memory .exit) ≡ withMemory (processorsIn (now (panel .entry))) (slotsIn (now (panel .entry))) (runIn (now (panel .entry)) (now (program .entry)) (watchOf watch) (cycles .0) (memoryOf (now (memory .entry))) .state) (now (memory .entry))) ⌝ }
 {
     let processors = buffers_tables::processors(panel);
@@ -90,7 +134,15 @@ pub fn run(panel: &[u8], program: &[u8], memory: &mut [u8], watch: Watch, cycles
     let k = cycles.0;
     let mut done: u16 = 0;
     while done < k {
-        run_cycle(panel, program, processors, slots, memory);
+        run_cycle(
+            functions,
+            translations,
+            panel,
+            program,
+            processors,
+            slots,
+            memory,
+        );
         done += 1;
         if shows(mask, value_of(panel, memory, signal)) {
             return Ran {

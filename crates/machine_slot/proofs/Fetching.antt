@@ -5,10 +5,11 @@ use mathlib.Core.List.{List}
 use mathlib.Core.Logic.{_⊎_, inl, inr}
 use native.Mathlib.Omega.{arith}
 use borrow.Author.Tests.{ne-eqb}
+use Rattle.gates.specs.Gate.{Legal}
 use Rattle.model.specs.Module.{At, noSender}
 use Rattle.model.specs.Machine.{Memory, fetch, operand, result, sent}
 use Rattle.instruction.specs.Operand.{operandOf, partOf, locationOf}
-use Rattle.buffers_tables.specs.Panel.{processorsIn, slotsIn, handIn}
+use Rattle.buffers_tables.specs.Panel.{processorsIn, slotsIn, codesIn, handIn}
 use Rattle.buffers_tables.specs.Program.{signalAt, partAt, locationAt, senderAt, instructionIn}
 use Rattle.buffers_tables.specs.Tables.{networkIn, moduleIn, Tables}
 use Rattle.machine_slot.specs.Storing.{gateOn, evaluatedOn, evaluated}
@@ -53,6 +54,13 @@ unfolding networkIn moduleIn
 line-signal panel program tables p i l h =
     let a : At (moduleIn panel program) p i = record { processor = l; slot = h } in
     omega (arith, tables .laid .signals p i a, tables .signals-high)
+
+-- and codes that are supplied, where it is not empty
+pub line-codes : (panel program : List ℕ) → Tables panel program → (p i : ℕ) → p < processorsIn panel → i < slotsIn panel
+    → (signalAt program p i ≡ 0 → ⊥) → Legal (codesIn panel (signalAt program p i))
+unfolding networkIn moduleIn
+line-codes panel program tables p i l h some =
+    tables .codes _ (omega (arith, some)) (tables .laid .signals p i (record { processor = l; slot = h }))
 
 -- and receives from a processor that the module has
 pub sender-fits : (panel program : List ℕ) → Tables panel program → (p i : ℕ) → p < processorsIn panel → i < slotsIn panel

@@ -9,18 +9,29 @@ ghost use Prim.Native.Nat.{_<_, _≤_};
 ghost use mathlib.Core.Bool.{not};
 ghost use lib.Dec.{eqb};
 ghost use lib.ListN.{length, getD};
+ghost use Rattle.gates.specs.Gate.{Legal};
+ghost use Rattle.gates.specs.Table.{GateTables};
 ghost use Rattle.model.specs.Module.{localPresent, switchPresent, noSender};
 ghost use Rattle.model.specs.Machine.{sent as sentBy, slot as slotDone};
 ghost use Rattle.buffers_memory.specs.Memory.{memoryLength, memoryOf, place, withMemory, written, here, MemoryBytes};
-ghost use Rattle.buffers_tables.specs.Panel.{panelLength, processorsIn, slotsIn, handIn};
+ghost use Rattle.buffers_tables.specs.Panel.{panelLength, processorsIn, slotsIn, codesIn, handIn};
 ghost use Rattle.buffers_tables.specs.Program.{programLength, signalAt, instructionIn};
 ghost use Rattle.buffers_tables.specs.Tables.{networkIn, moduleIn, Tables};
 ghost use Rattle.machine_slot.specs.Storing.{gateOn, evaluatedOn, evaluated, FirstAre, storing, storedIf, passed};
 
 // The result of a line's gate: its operands are fetched, and the codes of its signal applied.
-fn gate_on(panel: &[u8], memory: &[u8], processor: usize, line: Instruction) -> u8
+fn gate_on(
+    functions: &[u8],
+    translations: &[u8],
+    panel: &[u8],
+    memory: &[u8],
+    processor: usize,
+    line: Instruction,
+) -> u8
     requires { ⌜ (length (now panel) ≡ panelLength) × (processor < 16) × (line .signal ≤ 4096) ⌝ }
     requires { ⌜ MemoryBytes (now memory) ⌝ }
+    requires { ⌜ Legal (codesIn (now panel) (line .signal)) ⌝ }
+    requires { ⌜ GateTables (now functions) (now translations) ⌝ }
     ensures { λ r. ⌜ r ≡ gateOn (now (panel .entry)) (memoryOf (now (memory .entry))) processor line ⌝ }
 {
     let signal = line.signal as usize;
@@ -30,6 +41,8 @@ fn gate_on(panel: &[u8], memory: &[u8], processor: usize, line: Instruction) -> 
     let a4 = line.a4;
     let gate = buffers_tables::gate_in(panel, signal);
     gate.value(
+        functions,
+        translations,
         buffers_memory::fetch(memory, processor, a1),
         buffers_memory::fetch(memory, processor, a2),
         buffers_memory::fetch(memory, processor, a3),
@@ -39,10 +52,20 @@ fn gate_on(panel: &[u8], memory: &[u8], processor: usize, line: Instruction) -> 
 
 // "Its gate's result, or its input's value for cycle t", which is the value in hand. An empty slot is not evaluated. The line is
 // decoded behind the tests: what is decoded before them has to be kept over them.
-fn evaluate(panel: &[u8], program: &[u8], memory: &[u8], processor: usize, slot: Slot) -> u8
+fn evaluate(
+    functions: &[u8],
+    translations: &[u8],
+    panel: &[u8],
+    program: &[u8],
+    memory: &[u8],
+    processor: usize,
+    slot: Slot,
+) -> u8
     requires { ⌜ (length (now panel) ≡ panelLength) × (length (now program) ≡ programLength) × (processor < 16) × (slot .0 < 256) ⌝ }
     requires { ⌜ signalAt (now program) processor (slot .0) ≤ 4096 ⌝ }
     requires { ⌜ MemoryBytes (now memory) ⌝ }
+    requires { ⌜ ((signalAt (now program) processor (slot .0) ≡ 0 → ⊥) → Legal (codesIn (now panel) (signalAt (now program) processor (slot .0)))) ⌝ }
+    requires { ⌜ GateTables (now functions) (now translations) ⌝ }
     ensures { λ r. ⌜ r ≡ evaluatedOn (now (panel .entry)) (memoryOf (now (memory .entry))) processor (instructionIn (now (program .entry)) processor (slot .0)) ⌝ }
 {
     let signal = buffers_tables::signal_in(program, processor, slot) as usize;
@@ -53,6 +76,8 @@ fn evaluate(panel: &[u8], program: &[u8], memory: &[u8], processor: usize, slot:
         return buffers_tables::hand(panel, signal);
     }
     gate_on(
+        functions,
+        translations,
         panel,
         memory,
         processor,
@@ -63,6 +88,8 @@ fn evaluate(panel: &[u8], program: &[u8], memory: &[u8], processor: usize, slot:
 // "every processor fetches first": what each stores locally and what it sends. What it sends is fetched before its gate is evaluated,
 // and so is not kept meanwhile.
 fn fetch_all(
+    functions: &[u8],
+    translations: &[u8],
     panel: &[u8],
     program: &[u8],
     memory: &[u8],
@@ -74,6 +101,7 @@ fn fetch_all(
     requires { ⌜ Tables (now panel) (now program) ⌝ }
     requires { ⌜ MemoryBytes (now memory) ⌝ }
     requires { ⌜ (processors ≡ processorsIn (now panel)) × (slot .0 < slotsIn (now panel)) × (length (now results) ≡ 16) × (length (now sent) ≡ 16) ⌝ }
+    requires { ⌜ GateTables (now functions) (now translations) ⌝ }
     ensures { λ r. ⌜ FirstAre processors (λ p. evaluated (networkIn (now (panel .entry)) (now (program .entry))) (moduleIn (now (panel .entry)) (now (program .entry))) (handIn (now (panel .entry))) (memoryOf (now (memory .entry))) p (slot .0)) (now (results .exit)) ⌝ }
     ensures { λ r. ⌜ FirstAre processors (λ p. sentBy (moduleIn (now (panel .entry)) (now (program .entry))) (memoryOf (now (memory .entry))) p (slot .0)) (now (sent .exit)) ⌝ }
 {
@@ -82,7 +110,7 @@ fn fetch_all(
         let line = buffers_tables::instruction_in(program, p, slot);
         let send = line.send;
         sent[p] = buffers_memory::fetch(memory, p, send);
-        results[p] = evaluate(panel, program, memory, p, slot);
+        results[p] = evaluate(functions, translations, panel, program, memory, p, slot);
         p += 1;
     }
 }
@@ -159,15 +187,26 @@ fn store_all(
 }
 
 // "In slot i every processor fetches first, then stores."
-pub fn run_slot(panel: &[u8], program: &[u8], processors: usize, slot: Slot, memory: &mut [u8])
+pub fn run_slot(
+    functions: &[u8],
+    translations: &[u8],
+    panel: &[u8],
+    program: &[u8],
+    processors: usize,
+    slot: Slot,
+    memory: &mut [u8],
+)
     requires { ⌜ Tables (now panel) (now program) ⌝ }
     requires { ⌜ MemoryBytes (now memory) ⌝ }
     requires { ⌜ (processors ≡ processorsIn (now panel)) × (slot .0 < slotsIn (now panel)) ⌝ }
+    requires { ⌜ GateTables (now functions) (now translations) ⌝ }
     ensures { λ r. ⌜ now (memory .exit) ≡ withMemory (processorsIn (now (panel .entry))) (slotsIn (now (panel .entry))) (slotDone (networkIn (now (panel .entry)) (now (program .entry))) (moduleIn (now (panel .entry)) (now (program .entry))) (handIn (now (panel .entry))) (slot .0) (memoryOf (now (memory .entry)))) (now (memory .entry)) ⌝ }
 {
     let mut results = [0u8; 16];
     let mut sent = [0u8; 16];
     fetch_all(
+        functions,
+        translations,
         panel,
         program,
         memory,

@@ -412,11 +412,23 @@ module _ {n : Network} {m : Module} (laid : Laid n m) where
 abbrev pub Small : Module → Memory → Type 0
 Small m w = Alike (λ x y. x ≤ 3) m w w
 
+pub fetch-small : {m : Module} {w : Memory} → Small m w → (p part k : ℕ) → At m p k → part < 4 → fetch w p part k ≤ 3
+unfolding fetch
+fetch-small small p zero k a l = small .earlierLocal p k a
+fetch-small small p (suc zero) k a l = small .presentLocal p k a
+fetch-small small p (suc (suc zero)) k a l = small .earlierSwitch p k a
+fetch-small small p (suc (suc (suc zero))) k a l = small .presentSwitch p k a
+fetch-small small p (suc (suc (suc (suc part)))) k a l = absurd (omega arith)
+
 module _ {n : Network} {m : Module} (laid : Laid n m) where
   pub opening-small : (given : ℕ → ℕ) → ((s : ℕ) → Signal n s → given s ≤ 3) → Small m (opening m given)
   opening-small given codes = opening-alike (λ x y. x ≤ 3) laid (omega arith) given given codes
 
-  pub cycle-small : ((s a b c d : ℕ) → a ≤ 3 → b ≤ 3 → c ≤ 3 → d ≤ 3 → n .gate s a b c d ≤ 3)
-      → (row : ℕ → ℕ) → ((s : ℕ) → Signal n s → n .kind s ≡ input → row s ≤ 3) → {w : Memory} → Small m w → Small m (cycle n m row w)
-  cycle-small gates row codes =
-      cycle-alike (λ x y. x ≤ 3) laid (omega arith) (λ s a b c d a' b' c' d'. gates s a b c d) row row codes
+  -- gates and inputs that keep codes
+  module _ (gates : (s a b c d : ℕ) → a ≤ 3 → b ≤ 3 → c ≤ 3 → d ≤ 3 → n .gate s a b c d ≤ 3)
+      (row : ℕ → ℕ) (codes : (s : ℕ) → Signal n s → n .kind s ≡ input → row s ≤ 3) {w : Memory} (small : Small m w) where
+    pub slots-small : (c : ℕ) → c ≤ m .slots → Small m (slots n m row c w)
+    slots-small = slots-alike (λ x y. x ≤ 3) laid (omega arith) (λ s a b c d a' b' c' d'. gates s a b c d) row row codes small
+
+    pub cycle-small : Small m (cycle n m row w)
+    cycle-small = cycle-alike (λ x y. x ≤ 3) laid (omega arith) (λ s a b c d a' b' c' d'. gates s a b c d) row row codes small

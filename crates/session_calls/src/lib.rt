@@ -91,8 +91,10 @@ fn run_in(panel: &mut [u8], program: &[u8], memory: &mut [u8], cycles: u32) -> u
     ensures { λ r. ⌜ Writes (commanded (now (panel .entry)) (now (program .entry)) (now (memory .entry)) (headIn (now (panel .entry))) (running cycles)) (now (panel .entry)) r (now (panel .exit)) ⌝ }
     ensures { λ _. ⌜ now (memory .exit) ≡ withMemory (processorsIn (now (panel .entry))) (slotsIn (now (panel .entry))) (commanded (now (panel .entry)) (now (program .entry)) (now (memory .entry)) (headIn (now (panel .entry))) (running cycles) .state) (now (memory .entry)) ⌝ }
 {
+    let functions = gates::functions();
+    let translations = gates::translations();
     tell(
-        session_state::decode(panel).run(panel, program, memory, cycles),
+        session_state::decode(panel).run(&functions, &translations, panel, program, memory, cycles),
         panel,
     )
 }

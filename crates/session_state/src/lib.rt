@@ -4,6 +4,7 @@ ghost use mathlib.Core.Path.{_≡_};
 ghost use mathlib.Core.List.{List};
 ghost use Prim.Native.Nat.{ℕ, _≤_, _<_};
 ghost use lib.ListN.{length};
+ghost use Rattle.gates.specs.Table.{GateTables};
 ghost use Rattle.model.specs.Session.{set as setting, watch as watching, read as reading, run as running};
 ghost use Rattle.buffers_memory.specs.Memory.{withMemory, MemoryBytes};
 ghost use Rattle.buffers_tables.specs.Panel.{panelLength, signalsIn, processorIn, processorsIn, slotsIn};
@@ -151,10 +152,19 @@ impl Session {
     }
 
     // "run k cycles": "It answers the cycles done and whether it stopped".
-    pub fn run(self, panel: &[u8], program: &[u8], memory: &mut [u8], cycles: u32) -> Told
+    pub fn run(
+        self,
+        functions: &[u8],
+        translations: &[u8],
+        panel: &[u8],
+        program: &[u8],
+        memory: &mut [u8],
+        cycles: u32,
+    ) -> Told
         requires { ⌜ Tables (now panel) (now program) ⌝ }
         requires { ⌜ Watching (now panel) (watchOf (self .watch)) ⌝ }
         requires { ⌜ MemoryBytes (now memory) ⌝ }
+        requires { ⌜ GateTables (now functions) (now translations) ⌝ }
         ensures { λ r. ⌜ Tells (commanded (now (panel .entry)) (now (program .entry)) (now (memory .entry)) (headOf self (now (panel .entry))) (running cycles)) r (now (panel .entry)) (now (panel .entry)) ⌝ }
         ensures { λ r. ⌜ now (memory .exit) ≡ withMemory (processorsIn (now (panel .entry))) (slotsIn (now (panel .entry))) (commanded (now (panel .entry)) (now (program .entry)) (now (memory .entry)) (headOf self (now (panel .entry))) (running cycles) .state) (now (memory .entry)) ⌝ }
     {
@@ -167,7 +177,15 @@ impl Session {
                 answer: CallAnswer::TooManyCycles(finished),
             };
         }
-        let ran = machine_run::run(panel, program, memory, watch, Cycle(cycles as u16));
+        let ran = machine_run::run(
+            functions,
+            translations,
+            panel,
+            program,
+            memory,
+            watch,
+            Cycle(cycles as u16),
+        );
         let done = ran.done.0;
         let stopped = ran.stopped;
         Told {

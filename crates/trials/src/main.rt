@@ -5,6 +5,7 @@ use gates::Gate;
 use libc::STDOUT_FILENO;
 ghost use Prim.Native.Nat.{_≤_};
 ghost use lib.ListN.{length};
+ghost use Rattle.gates.specs.Value.{Code};
 
 // Values, functions and translations by name.
 const U: u8 = 2;
@@ -35,7 +36,11 @@ fn print_line(numbers: &[u16])
 }
 
 // A gate that takes its operands as they are: prints f, g5, the operands and the value.
-fn gate_trial(f: u8, g5: u8, a: u8, b: u8, c: u8, d: u8) {
+fn gate_trial(f: u8, g5: u8, a: u8, b: u8, c: u8, d: u8)
+    requires { ⌜ (f ≤ 4) × (g5 ≤ 6) × Code a × Code b × Code c × Code d ⌝ }
+{
+    let functions = gates::functions();
+    let translations = gates::translations();
     let gate = Gate {
         f,
         g1: SAME,
@@ -44,7 +49,7 @@ fn gate_trial(f: u8, g5: u8, a: u8, b: u8, c: u8, d: u8) {
         g4: SAME,
         g5,
     };
-    let value = gate.value(a, b, c, d);
+    let value = gate.value(&functions, &translations, a, b, c, d);
     print_line(
         &[
             f as u16,

@@ -1,13 +1,18 @@
--- The byte read is that of the operand's part and location, which is what the machine fetches (`fetched-there`).
+-- The byte read is that of the operand's part and location, which is what the machine fetches (`fetched-there`), and a value.
 use Rattle.buffers_memory.proofs.Fetched.{fetched-there}
+use native.Mathlib.Omega.{arith}
 use borrow.Author.Needs.{needs}
 use Rattle.buffers_memory.proofs.fetch.Statement.{statement}
 use Rattle.buffers_memory.proofs.fetch.Tie as tie
 
 returns : tie.Need-returns
 returns c =
-    rw (c .before .before .part-base .ensures .0, c .before .location-of .ensures .0)
-    (fetched-there (c .before .before .before .before .args .memory .now) _ (c .before .before .before .before .args .a) (c .before .before .before .before .pre .0) (c .before .before .before .before .pre .1))
+    let located = c .before .location-of .ensures in
+    let based = c .before .before .part-base .ensures in
+    let s = c .before .before .before .before in (
+      rw (based .0, located .0) (fetched-there (s .args .memory .now) _ (s .args .a) (s .pre .0) (s .pre .1)),
+      s .pre .0 .values _ (omega (arith, based .1, located .1, s .pre .1)),
+    )
 
 pub fetch-spec : {M : Type 1} → statement M
 fetch-spec =

@@ -1,45 +1,33 @@
--- By cases of f, as `function` tests it, with what `and4`, `xor4`, `select` and `majority3` promise.
-use Rattle.logic.proofs.Tests.{decided}
-use Rattle.gates.specs.Function.{function}
+-- The entry read is that of f and the operands, and a function of values is a value.
+use mathlib.Core.Path.{sym, subst}
+use native.Mathlib.Omega.{arith}
+use Rattle.gates.specs.Value.{Code}
+use Rattle.gates.proofs.Legal.{function-code}
 use borrow.Author.Needs.{needs}
 use Rattle.gates.proofs.apply.Statement.{statement}
 use Rattle.gates.proofs.apply.Tie as tie
 
+index : tie.Need-shared-slice-read-result
+index c = let t = c .before .pre .0 .size in omega arith
+
 returns : tie.Need-returns
-unfolding function
-returns c = search (needs, decided)
-
-returns-2 : tie.Need-returns-2
-unfolding function
-returns-2 c = search (needs, decided)
-
-returns-3 : tie.Need-returns-3
-unfolding function
-returns-3 c = search (needs, decided)
-
-returns-4 : tie.Need-returns-4
-unfolding function
-returns-4 c = search (needs, decided)
-
-returns-5 : tie.Need-returns-5
-unfolding function
-returns-5 c = search (needs, decided)
-
-returns-6 : tie.Need-returns-6
-unfolding function
-returns-6 c = search (needs, decided)
+returns c =
+    let table = c .before .pre .0 in
+    let h = c .before .pre .1 in
+    let is = table .rules _ _ _ _ _ (h .0) (h .1) (h .2) (h .3) (h .4) in
+    (is, subst Code (sym is) (function-code _ (h .1) (h .2) (h .3) (h .4)))
 
 pub apply-spec : {M : Type 1} → statement M
 apply-spec =
     tie.close
     (tie.spec
-    (λ c κs. search needs)
-    returns
-    (λ c κs. search needs)
-    returns-2
-    returns-3
-    (λ c κs. search needs)
-    returns-4
-    (λ c κs. search needs)
-    returns-5
-    returns-6)
+    (λ c. search needs)
+    (λ c. search needs)
+    (λ c. search needs)
+    (λ c. search needs)
+    (λ c. search needs)
+    (λ c. search needs)
+    (λ c. search needs)
+    (λ c. search needs)
+    index
+    returns)

@@ -2,43 +2,47 @@
 use Prim.Native.Nat.{_≤_, _-_, _+_}
 use mathlib.Core.Path.{_≡_, _∙_}
 use Rattle.model.specs.Session.{ticks, watched}
-use Rattle.buffers_memory.specs.Memory.{memoryOf, within, withMemory, MemoryBytes}
-use Rattle.buffers_memory.proofs.Written.{bytes-written}
+use Rattle.buffers_memory.specs.Memory.{memoryOf, withMemory, MemoryBytes}
 use Rattle.buffers_tables.specs.Panel.{processorsIn, slotsIn}
 use Rattle.machine_run.specs.Running.{cycleIn, valueIn, watchOf}
 use Rattle.machine_run.proofs.Cycles.{QuietTo}
-use Rattle.machine_run.proofs.Tables.{none-done, one-more, told, still-quiet, stopped-run, whole-run}
+use Rattle.machine_run.proofs.Tables.{none-done, one-more, cycle-bytes, told, still-quiet, stopped-run, whole-run}
 use borrow.Author.Needs.{needs}
 use native.Mathlib.Omega.{arith}
 use Rattle.machine_run.proofs.run.Statement.{statement}
 use Rattle.machine_run.proofs.run.Tie as tie
 
 abbrev Inv-loop : tie.InvT-loop
-Inv-loop panel program memory₀ cycles processors slots signal mask k done₀ memory done =
+Inv-loop functions translations panel program memory₀ cycles processors slots signal mask k done₀ memory done =
     (done ≤ k) × MemoryBytes memory
     × (memory ≡ withMemory (processorsIn panel) (slotsIn panel) (ticks (cycleIn panel program) done (memoryOf memory₀)) memory₀)
     × QuietTo (cycleIn panel program) (λ w. watched mask (valueIn panel w signal)) (memoryOf memory₀) done
 
 abbrev μ-loop : tie.MeasureT-loop
-μ-loop panel program memory₀ cycles processors slots signal mask k done₀ memory done = k - done
+μ-loop functions translations panel program memory₀ cycles processors slots signal mask k done₀ memory done = k - done
 
 -- from the loop back to the start
 abbrev start-of : tie.At-loop Inv-loop μ-loop → tie.Start Inv-loop μ-loop
-start-of loop = loop .before .before .before .before .before .before
+start-of loop = loop .before .before .before .before .before .before .before .before
 
 loop-holds : tie.Need-loop-holds Inv-loop μ-loop
 loop-holds c =
-    let start = c .before .before .before .before .before in
-    (omega arith, start .pre .1 .1, none-done (start .pre .0) _ (start .pre .1 .1 .size), λ i a b. absurd (omega arith))
+    let start = c .before .before .before .before .before .before .before in
+    (omega arith, start .pre .1 .1 .0, none-done (start .pre .0) _ (start .pre .1 .1 .0 .size), λ i a b. absurd (omega arith))
+
+run-cycle-requires : tie.Need-run-cycle-requires Inv-loop μ-loop
+run-cycle-requires c κs =
+    let loop = c .before .before in
+    let start = start-of loop in
+    (start .pre .0, (loop .loop .inv .1, ((loop .before .before .processors .ensures .0, loop .before .slots .ensures), start .pre .1 .1 .1)))
 
 value-of-requires : tie.Need-value-of-requires Inv-loop μ-loop
 value-of-requires c κs =
     let loop = c .before .before .before .before .before .before in
     let start = start-of loop in
-    let panel = start .args .panel .now in
     let watch = start .pre .1 .0 in (
       (start .pre .0 .panel-size, watch .signal-high, omega (arith, watch .processor-low, start .pre .0 .processors-high)),
-      bytes-written (within (processorsIn panel) (slotsIn panel)) _ (loop .loop .memory) _ (loop .loop .inv .1) (c .before .before .before .run-cycle .ensures),
+      cycle-bytes (start .pre .0) (loop .loop .memory) (loop .loop .inv .1) (c .before .before .before .run-cycle .ensures),
     )
 
 returns : tie.Need-returns Inv-loop μ-loop
@@ -58,11 +62,10 @@ loop-again c =
     let loop = ran .before .before .before in
     let start = start-of loop in
     let t = start .pre .0 in
-    let panel = start .args .panel .now in
     let done = loop .loop .done in
     let next = one-more t _ done (loop .loop .inv .2) (ran .run-cycle .ensures) in
     let shown = told t _ (watchOf (start .args .watch)) (start .pre .1 .0) (done + 1) next (c .before .before .value-of .ensures) (c .before .shows .ensures) in
-    (omega arith, bytes-written (within (processorsIn panel) (slotsIn panel)) _ (start .args .memory .now) _ (start .pre .1 .1) next, next, still-quiet t _ (watchOf (start .args .watch)) done (loop .loop .inv .3) (shown ∙ c .if1 .left))
+    (omega arith, cycle-bytes t (loop .loop .memory) (loop .loop .inv .1) (ran .run-cycle .ensures), next, still-quiet t _ (watchOf (start .args .watch)) done (loop .loop .inv .3) (shown ∙ c .if1 .left))
 
 returns-2 : tie.Need-returns-2 Inv-loop μ-loop
 returns-2 c =
@@ -81,7 +84,7 @@ run-spec =
     (λ c κs. search needs)
     (λ c κs. search needs)
     loop-holds
-    (λ c κs. search needs)
+    run-cycle-requires
     (λ c. search needs)
     value-of-requires
     (λ c κs. search needs)

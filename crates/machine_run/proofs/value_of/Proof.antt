@@ -21,7 +21,7 @@ returns c =
     let placed = c .before .before in
     let s = placed .before .before .before in
     let memory = memoryOf (s .args .memory .now) in
-    c .fetch .ensures
+    c .fetch .ensures .0
     ∙ ap (λ (k : ℕ). memory .earlierLocal (placed .place-processor .result) k) (c .before .place-slot .ensures)
     ∙ ap (λ (p : ℕ). memory .earlierLocal p (slotIn (s .args .panel .now) (s .args .signal))) (placed .place-processor .ensures .0)
 

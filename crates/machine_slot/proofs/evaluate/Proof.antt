@@ -23,8 +23,13 @@ returns-2 c =
 
 gate-on-requires : tie.Need-gate-on-requires
 gate-on-requires c κs =
-    let s = c .before .before .before .before .before .before .before .before in
-    ((s .pre .0 .0, s .pre .0 .2, rw (c .instruction-in .ensures) (s .pre .1 .0)), s .pre .1 .1)
+    let read = c .before .before .before .before in
+    let s = read .before .before .before .before .before .before in
+    let some = c .before .before .before .if1 .left in
+    let h = s .pre .1 .1 in (
+      (s .pre .0 .0, s .pre .0 .2, rw (c .instruction-in .ensures) (s .pre .1 .0)),
+      (h .0, (rw (c .instruction-in .ensures) (h .1 .0 (λ e. some (read .signal-in .ensures ∙ e))), h .1 .1)),
+    )
 
 returns-3 : tie.Need-returns-3
 unfolding evaluatedOn

@@ -10,12 +10,16 @@ use borrow.Author.Needs.{needs}
 use Rattle.session_calls.proofs.run_in.Statement.{statement}
 use Rattle.session_calls.proofs.run_in.Tie as tie
 
+-- the entry, from where the head was decoded
+abbrev entry : tie.After-decode → tie.Start
+entry c = c .before .before .before .before .before .before .before
+
 returns : tie.Need-returns
 returns c =
     let told = c .before .before in
     let done = told .before .before .before .before in
-    let decoded = done .before .before .before in
-    let s = decoded .before .before .before .before .before in
+    let decoded = done .before .before .before .before .before in
+    let s = entry decoded in
     let panel = s .args .panel .now in
     let program = s .args .program .now in
     let memory = s .args .memory .now in
@@ -25,12 +29,33 @@ returns c =
 -- the watch that was decoded is the panel's
 run-requires : tie.Need-run-requires
 run-requires c κs =
-    let decoded = c .before .before in
-    let s = decoded .before .before .before .before .before in
+    let decoded = c .before .before .before .before in
+    let s = entry decoded in
     let watch = ap (λ (h : Head). h .watch) (decoded .decode .ensures .0) in
-    (s .pre .0, (subst (Watching (s .args .panel .now)) (sym watch) (s .pre .1 .0), s .pre .1 .1))
+    let made = decoded .before .before in (
+      s .pre .0,
+      (
+        subst (Watching (s .args .panel .now)) (sym watch) (s .pre .1 .0),
+        (s .pre .1 .1, record { functions-right = made .before .functions .ensures; translations-right = made .translations .ensures }),
+      ),
+    )
+
+tell-requires : tie.Need-tell-requires
+tell-requires c κs =
+    let ran = c .before .before .before in
+    entry (ran .before .before .before .before .before) .pre .0 .panel-size
 
 pub run-in-spec : {M : Type 1} → statement M
 run-in-spec =
     tie.close
-    (tie.spec (λ c κs. search needs) run-requires (λ c κs. search needs) (λ c. search needs) (λ c. search needs) returns)
+    (tie.spec
+    (λ c κs. search needs)
+    (λ c κs. search needs)
+    (λ c κs. search needs)
+    (λ c. search needs)
+    (λ c. search needs)
+    run-requires
+    tell-requires
+    (λ c. search needs)
+    (λ c. search needs)
+    returns)

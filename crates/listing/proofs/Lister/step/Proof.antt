@@ -7,9 +7,9 @@ use borrow.Author.Needs.{needs}
 use Rattle.listing.proofs.Lister.step.Statement.{statement}
 use Rattle.listing.proofs.Lister.step.Tie as tie
 
-add-t28 : tie.Need-add-t28
-add-t28 c =
-    let s = c .before .before .before .before .before .before .before .before .before .before .before .before .before .before .before in
+add-t30 : tie.Need-add-t30
+add-t30 c =
+    let s = c .before .before .before .before .before .before .before .before .before .before .before .before .before .before .before .before .before in
     omega (arith, stands-end (s .pre .0 .stands), stands-pieces (s .pre .0 .stands))
 
 returns : tie.Need-returns
@@ -19,9 +19,9 @@ returns c = λ files k s.
 
 write-changes-requires : tie.Need-write-changes-requires
 write-changes-requires c κs =
-    let s = c .before .before .before .before .before .before .before .before .before .before .before .before .before .before .before in
+    let s = c .before .before .before .before .before .before .before .before .before .before .before .before .before .before .before .before .before in
     let st = s .pre .0 .stands in
-    ((st .right .sizes .panel-size, right-signals (st .right)), (right-processor (st .right), (right-memory (st .right), (st .shown-size, s .pre .1))))
+    ((st .right .sizes .panel-size, right-signals (st .right)), (right-processor (st .right), (right-memory (st .right), (st .shown-size, s .pre .1 .0))))
 
 returns-2 : tie.Need-returns-2
 returns-2 c = λ files k s.
@@ -31,13 +31,13 @@ returns-2 c = λ files k s.
 
 take-settings-requires : tie.Need-take-settings-requires
 take-settings-requires c κs =
-    let s = c .before .before .before .before .before .before .before .before .before .before .before .before in
+    let s = c .before .before .before .before .before .before .before .before .before .before .before .before .before .before in
     let st = s .pre .0 .stands in
     (stands-stimulus st, (stands-few st, (st .right .sizes .panel-size, right-signals (st .right))))
 
 -- the entry, from where the settings were taken
 abbrev entry : tie.After-take-settings → tie.Start
-entry c = let start = c .before .before .before .before .before .before .before .before .before .before .before .before .before in start
+entry c = let start = c .before .before .before .before .before .before .before .before .before .before .before .before .before .before .before in start
 
 run-one-requires : tie.Need-run-one-requires
 run-one-requires c κs =
@@ -45,7 +45,7 @@ run-one-requires c κs =
     let fed = settled .take-settings .ensures in
     let later = settled .before .before .if2 .left in
     let more = settled .before .before .before .if1 .left in
-    later-ready _ (at-count (entry settled .pre .0 .stands)) later more (fed .0) (fed .1 .0) (fed .1 .1)
+    (later-ready _ (at-count (entry settled .pre .0 .stands)) later more (fed .0) (fed .1 .0) (fed .1 .1), entry settled .pre .1 .1)
 
 write-changes-requires-2 : tie.Need-write-changes-requires-2
 write-changes-requires-2 c κs =
@@ -57,10 +57,10 @@ write-changes-requires-2 c κs =
     let s = entry settled in
     let st = s .pre .0 .stands in
     let right = later-right _ _ (at-count st) later more (fed .0) (fed .1 .0) (fed .1 .1) (run .run-one .ensures .1) in
-    ((right .sizes .panel-size, right-signals right), (right-processor right, (right-memory right, (st .shown-size, s .pre .1))))
+    ((right .sizes .panel-size, right-signals right), (right-processor right, (right-memory right, (st .shown-size, s .pre .1 .0))))
 
-add-t21 : tie.Need-add-t21
-add-t21 c =
+add-t23 : tie.Need-add-t23
+add-t23 c =
     let run = c .before .before .before .before .before .before .before .before .before .before .before in
     let s = entry (run .before .before .before .before .before .before .before) in
     omega (arith, stands-end (s .pre .0 .stands), stands-pieces (s .pre .0 .stands))
@@ -85,7 +85,7 @@ step-spec =
     (λ c. search needs)
     (λ c. search needs)
     (λ c κs. search needs)
-    add-t28
+    add-t30
     (λ c. search needs)
     returns
     (λ c. search needs)
@@ -98,7 +98,7 @@ step-spec =
     take-settings-requires
     run-one-requires
     write-changes-requires-2
-    add-t21
+    add-t23
     (λ c. search needs)
     (λ c. search needs)
     (λ c. search needs)

@@ -18,21 +18,21 @@ use Rattle.session_state.proofs.Session.run.Tie as tie
 
 -- the entry, from where the machine has run
 abbrev entry : tie.After-run → tie.Start
-entry c = c .before .before .before .before .before .before .before .before
+entry c = let start = c .before .before .before .before .before .before .before .before .before .before in start
 
 returns : tie.Need-returns
 returns c =
-    let s = c .before .before .before .before .before .before in
+    let s = c .before .before .before .before .before .before .before .before in
     let panel = s .args .panel .now in
     let h = headOf (s .args .self) panel in
     let program = s .args .program .now in
     let memory = s .args .memory .now in
     let k = s .args .cycles in
     let l : 65535 < h .finished + k = omega (arith, c .if1 .taken) in
-    (tells _ _ _ _ _ (run-refused panel program memory h k l) refl refl refl (sym (hands-own panel (s .pre .0 .panel-size))), memory-kept panel program memory h k (s .pre .1 .1 .size) l)
+    (tells _ _ _ _ _ (run-refused panel program memory h k l) refl refl refl (sym (hands-own panel (s .pre .0 .panel-size))), memory-kept panel program memory h k (s .pre .1 .1 .0 .size) l)
 
-add-t18 : tie.Need-add-t18
-add-t18 c =
+add-t20 : tie.Need-add-t20
+add-t20 c =
     let s = entry (c .before .before) in
     let done = c .before .before .run .ensures .0 in
     let most = run-most (s .args .panel .now) (s .args .program .now) (watchOf (s .args .self .watch)) (memoryOf (s .args .memory .now)) (s .args .cycles) in
@@ -57,4 +57,4 @@ returns-2 c =
 pub run-spec : {M : Type 1} → statement M
 run-spec =
     tie.close
-    (tie.spec (λ c. search needs) (λ c. search needs) returns (λ c. search needs) (λ c κs. search needs) add-t18 (λ c. search needs) returns-2)
+    (tie.spec (λ c. search needs) (λ c. search needs) returns (λ c. search needs) (λ c κs. search needs) add-t20 (λ c. search needs) returns-2)
