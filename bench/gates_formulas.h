@@ -1,4 +1,5 @@
-/* A gate by the formulas of crates/gates. Included by machine.c alone. */
+/* Translations and functions by formulas, on all codes and values: what the tables are measured against. Included by machine.c
+ * alone. */
 #ifndef GATES_FORMULAS_H
 #define GATES_FORMULAS_H
 
@@ -42,14 +43,6 @@ static uint8_t apply(uint8_t f, uint8_t a, uint8_t b, uint8_t c, uint8_t d)
     default:
         return U;
     }
-}
-
-/* The codes are f and g1 to g5. */
-static uint8_t gate(const uint8_t codes[6], uint8_t a1, uint8_t a2, uint8_t a3, uint8_t a4)
-{
-    const uint8_t *g = codes + 1;
-
-    return translate(g[4], apply(codes[0], translate(g[0], a1), translate(g[1], a2), translate(g[2], a3), translate(g[3], a4)));
 }
 
 #endif

@@ -4,11 +4,19 @@
 
 #include "machine.h"
 
-/* The gates stand in a file of their own: -DGATES='"FILE"' builds the same machine with others. */
+/* `translate` and `apply` stand in a file of their own: -DGATES='"FILE"' builds the same machine with others. */
 #ifndef GATES
-#define GATES "gates_formulas.h"
+#define GATES "gates_table.h"
 #endif
 #include GATES
+
+/* The codes are f and g1 to g5. */
+static uint8_t gate(const uint8_t codes[6], uint8_t a1, uint8_t a2, uint8_t a3, uint8_t a4)
+{
+    const uint8_t *g = codes + 1;
+
+    return translate(g[4], apply(codes[0], translate(g[0], a1), translate(g[1], a2), translate(g[2], a3), translate(g[3], a4)));
+}
 
 /* What a pair names in a processor's own memory; none reads the zeros behind the four parts. */
 static uint8_t fetch(const uint8_t *own, const uint8_t *pair)

@@ -22,7 +22,8 @@ enum { NO_PART = 9, NO_SENDER = 99 };
 /* The memory: for each processor four parts of 256 locations, and 256 zeros. */
 enum { PARTS = 4, PART = 256, OWN = PART * (PARTS + 1), MEMORY = OWN * PROCESSORS };
 
-/* Runs the given number of cycles, or up to the first that shows a watched value; answers the cycles done. It takes the tables on trust. */
+/* Runs the given number of cycles, or up to the first that shows a watched value; answers the cycles done. It takes the tables on
+ * trust: a gate has no guards, so codes must be legal and values 0 to 3. */
 uint64_t c_run(const uint8_t *panel, const uint8_t *program, uint8_t *memory, uint16_t cycles);
 
 /* A network as a simulator on one processor keeps it. `order` has the inputs, then the unit-delay gates, then the rank-order
@@ -35,7 +36,7 @@ struct network {
     uint16_t sources[SIGNALS + 1][4];
 };
 
-/* Evaluates the network for the given number of cycles. values[s] is that of signal s, and values[0] is 0. */
+/* Evaluates the network for the given number of cycles, on the same trust. values[s] is that of signal s, and values[0] is 0. */
 void c_rank_order(const struct network *network, uint8_t values[SIGNALS + 1], uint16_t cycles);
 
 #endif

@@ -1,5 +1,7 @@
-/* Times the lockstep machine, Rattle's and C's in turn, on tables from a fixed seed, and Rattle's against C that evaluates a
- * network of the same size in rank order. Prints ns a processor and slot, and the ratio. Exits 1 where a byte differs. */
+/* machine_main [WAY]: times the lockstep machine, Rattle's and C's in turn, on tables from a fixed seed, and Rattle's against C
+ * that evaluates a network of the same size in rank order. Prints ns a processor and slot, and the ratio. WAY names the gates of
+ * a machine.c that is built with others: it prints the two rows of the machine alone, by that name, to stand below the others.
+ * Exits 1 where a byte differs. */
 #include <stdio.h>
 #include <stdlib.h>
 #include <string.h>
@@ -231,17 +233,34 @@ static void compare(const char *what, struct board *b, run *in_c)
     printf("%-22s %8.2f %8.2f %8.2f\n", what, 1e9 * rattle / operations, 1e9 * c / operations, rattle / c);
 }
 
-int main(void)
+static void compare_all(void)
 {
-    make_board(&full);
-    make_board(&small);
-    check(&full);
-    check(&small);
-
     printf("%-22s %8s %8s %8s\n", "ns a processor's slot", "Rattle", "C", "ratio");
     compare("machine, full table", &full, run_in_c);
     compare("machine, small table", &small, run_in_c);
     compare("full, C in rank order", &full, run_in_rank_order);
     compare("small, C in rank order", &small, run_in_rank_order);
+}
+
+static void compare_way(const char *way)
+{
+    char what[64];
+
+    snprintf(what, sizeof what, "full, %s", way);
+    compare(what, &full, run_in_c);
+    snprintf(what, sizeof what, "small, %s", way);
+    compare(what, &small, run_in_c);
+}
+
+int main(int count, char **words)
+{
+    make_board(&full);
+    make_board(&small);
+    check(&full);
+    check(&small);
+    if (count > 1)
+        compare_way(words[1]);
+    else
+        compare_all();
     return 0;
 }
