@@ -7,13 +7,13 @@ use Rattle.model.specs.Machine.{fetch}
 use Rattle.instruction.specs.declared.Operand.{Operand}
 use Rattle.instruction.specs.declared.Operand.the-variants.{LocalEarlier, LocalPresent, SwitchEarlier, SwitchPresent, None}
 use Rattle.instruction.specs.Operand.{partOf, locationOf}
-use Rattle.buffers_memory.specs.Memory.{place, memoryOf, fetchedPart, MemoryBytes}
+use Rattle.buffers_memory.specs.Memory.{partStride, place, memoryOf, fetchedPart, MemoryBytes}
 
-pub fetched-there : (bytes : List ℕ) (p : ℕ) (a : Operand) → MemoryBytes bytes → p < 16
+pub fetched-there : (bytes : List ℕ) (p : ℕ) (a : Operand) → MemoryBytes bytes → p < 16 → locationOf a < partStride
     → getD bytes (place p (fetchedPart a) (locationOf a)) 0 ≡ fetch (memoryOf bytes) p (partOf a) (locationOf a)
 unfolding fetch memoryOf
-fetched-there bytes p (LocalEarlier k) h l = refl
-fetched-there bytes p (LocalPresent k) h l = refl
-fetched-there bytes p (SwitchEarlier k) h l = refl
-fetched-there bytes p (SwitchPresent k) h l = refl
-fetched-there bytes p None h l = h .blanks p l
+fetched-there bytes p (LocalEarlier k) h l b = refl
+fetched-there bytes p (LocalPresent k) h l b = refl
+fetched-there bytes p (SwitchEarlier k) h l b = refl
+fetched-there bytes p (SwitchPresent k) h l b = refl
+fetched-there bytes p (None k) h l b = h .blanks p k l b

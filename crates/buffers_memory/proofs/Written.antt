@@ -162,10 +162,10 @@ written-bytes test w old coded h =
     record {
       size = written-length test w old;
       values = λ a l. subst (λ (x : ℕ). Code (getD (written test w old) x 0)) (sym (byte-is a)) (at (byte-place a l));
-      blanks = λ p l.
-          written-at test w old (record { processor-low = l; part-low = omega arith; location-low = omega arith })
-          ∙ written-blank test w old p blank 0 (omega arith)
-          ∙ h .blanks p l;
+      blanks = λ p k l b.
+          written-at test w old (record { processor-low = l; part-low = omega arith; location-low = b })
+          ∙ written-blank test w old p blank k (omega arith)
+          ∙ h .blanks p k l b;
     }
   where
     at : {p part k : ℕ} → Place p part k → Code (getD (written test w old) (place p part k) 0)

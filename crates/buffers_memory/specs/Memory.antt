@@ -65,13 +65,13 @@ fetchedPart (LocalEarlier k) = localEarlier
 fetchedPart (LocalPresent k) = localPresent
 fetchedPart (SwitchEarlier k) = switchEarlier
 fetchedPart (SwitchPresent k) = switchPresent
-fetchedPart None = blank
+fetchedPart (None k) = blank
 
 -- the bytes are of the right number, each is a value, and the fifth parts are blank
 pub record MemoryBytes (bytes : List ℕ) : Type 0 where
   pub size : length bytes ≡ memoryLength
   pub values : (a : ℕ) → a < memoryLength → Code (getD bytes a 0)
-  pub blanks : (p : ℕ) → p < 16 → getD bytes (place p blank 0) 0 ≡ nothing
+  pub blanks : (p k : ℕ) → p < 16 → k < partStride → getD bytes (place p blank k) 0 ≡ nothing
 
 -- what the byte of location k of a part of processor p is after the memory w is written over old where the test of processor and
 -- location passes; a fifth part keeps its bytes

@@ -37,7 +37,7 @@ fn part_base(a: Operand) -> usize
         Operand::LocalPresent(_) => 256,
         Operand::SwitchEarlier(_) => 512,
         Operand::SwitchPresent(_) => 768,
-        Operand::None => 1024,
+        Operand::None(_) => 1024,
     }
 }
 
@@ -49,7 +49,7 @@ fn location_of(a: Operand) -> usize
         Operand::LocalPresent(k) => k as usize,
         Operand::SwitchEarlier(k) => k as usize,
         Operand::SwitchPresent(k) => k as usize,
-        Operand::None => 0,
+        Operand::None(k) => k as usize,
     }
 }
 

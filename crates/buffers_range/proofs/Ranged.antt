@@ -160,8 +160,8 @@ module _ (panel program memory : List ℕ) where
       record {
         size = e;
         values = λ a l. subst (λ (x : ℕ). Code (getD memory x 0)) (sym (byte-is a)) (memory-in-range h .values (byte-place a l));
-        blanks = λ p l.
-            let there : Place p blank 0 = record { processor-low = l; part-low = omega arith; location-low = omega arith } in
+        blanks = λ p k l b.
+            let there : Place p blank k = record { processor-low = l; part-low = omega arith; location-low = b } in
             memory-in-range h .rest there
-            (rw (le-ltb blank blank (omega arith)) (and-false (within (processorsIn panel) (slotsIn panel) p 0)));
+            (rw (le-ltb blank blank (omega arith)) (and-false (within (processorsIn panel) (slotsIn panel) p k)));
       }

@@ -12,7 +12,7 @@ use Rattle.logic.specs.Test.{_and_, all}
 use Rattle.logic.proofs.Tests.{and-true, and-left, and-right, all-at, all-true}
 use Rattle.gates.specs.Translation.{isTranslation}
 use Rattle.gates.specs.Function.{isFunction}
-use Rattle.gates.specs.Gate.{Legal}
+use Rattle.gates.specs.Legal.{Legal}
 use Rattle.model.specs.Network.{input, unitDelay, rankOrder}
 use Rattle.buffers_tables.specs.Panel.{panelLength, panelStride, codesColumn, handColumn, signalStart, signalByte, columnIn, signalsIn, processorsIn, slotsIn, watchedIn, maskIn, kindIn, codesIn, handIn, processorIn, slotIn}
 use Rattle.buffers_runs.specs.Zeros.{zeros}

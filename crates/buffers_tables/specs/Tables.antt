@@ -6,7 +6,8 @@ use lib.Dec.{leb}
 use lib.ListN.{length}
 use Rattle.logic.specs.Choice.{if_then_else_}
 use Rattle.gates.specs.Value.{Code}
-use Rattle.gates.specs.Gate.{gate, Legal}
+use Rattle.gates.specs.Gate.{gate}
+use Rattle.gates.specs.Legal.{Legal}
 use Rattle.model.specs.Network.{Network}
 use Rattle.model.specs.Module.{Module, Laid, localPresent, switchPresent, sentSignal}
 use Rattle.buffers_tables.specs.Panel.{panelLength, signalsIn, processorsIn, slotsIn, kindIn, codesIn, handIn, processorIn, slotIn}

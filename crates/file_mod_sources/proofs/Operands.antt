@@ -47,12 +47,12 @@ module _ (m : Module) (p i k kind s : ℕ) where
   unfolding reads _and_
   reads-none = refl
 
-pub none-apart : (a : Operand) → (a ≡ None → ⊥) → false ≡ eqb (partOf a) noPart
+pub none-apart : (a : Operand) → ((k : ℕ) → a ≡ None k → ⊥) → false ≡ eqb (partOf a) noPart
 none-apart (LocalEarlier k) d = refl
 none-apart (LocalPresent k) d = refl
 none-apart (SwitchEarlier k) d = refl
 none-apart (SwitchPresent k) d = refl
-none-apart None d = absurd (d refl)
+none-apart (None k) d = absurd (d k refl)
 
 -- the line whose slot an operand names
 pub line-named : (l : List ℕ) (c q : ℕ) (a : Operand) (k : ℕ) → LineOf l c q (locationOf a) → locationOf a ≡ k → LineOf l c q k
@@ -88,7 +88,7 @@ module _ (net l : List ℕ) (c p i s j : ℕ) (a : Operand) (h : OperandOf net l
   pub location-is : m .location p i j ≡ locationOf a
   location-is =
       let right = slot-laid l c p i (h .line) .operand j (h .low) in
-      sym (ap locationOf (h .named) ∙ location-of-pair _ _ (right .part-known) (right .none-at-0))
+      sym (ap locationOf (h .named) ∙ location-of-pair _ _ (right .part-known))
 
   -- the line whose slot it names
   pub operand-line : LineOf l c p (locationOf a)

@@ -1,4 +1,5 @@
 -- What the else of a `let .. else` tells: the value is not of the constructor that was asked for.
+use Prim.Native.Nat.{ℕ}
 use mathlib.Core.Path.{_≡_, subst}
 use mathlib.Core.List.{[], _∷_}
 use mathlib.Core.Logic.{inl, inr}
@@ -9,8 +10,8 @@ use Rattle.instruction.specs.declared.Operand.{Operand}
 use Rattle.instruction.specs.declared.Operand.the-variants.{None}
 use Rattle.instruction.proofs.Operand.{the-type as operand-type}
 
-pub not-none : (a : Operand) → OneOf (0 ∷ 1 ∷ 2 ∷ 3 ∷ []) (tagOf operand-type a) → a ≡ None → ⊥
-not-none a h e = go (subst (λ (x : Operand). OneOf (0 ∷ 1 ∷ 2 ∷ 3 ∷ []) (tagOf operand-type x)) e h)
+pub not-none : (a : Operand) → OneOf (0 ∷ 1 ∷ 2 ∷ 3 ∷ []) (tagOf operand-type a) → (k : ℕ) → a ≡ None k → ⊥
+not-none a h k e = go (subst (λ (x : Operand). OneOf (0 ∷ 1 ∷ 2 ∷ 3 ∷ []) (tagOf operand-type x)) e h)
   where
     go : OneOf (0 ∷ 1 ∷ 2 ∷ 3 ∷ []) 4 → ⊥
     go (inl e) = omega arith

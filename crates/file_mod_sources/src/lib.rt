@@ -190,7 +190,7 @@ fn reads_source(modfile: &[u8], shape: Shape, gate: Gate, a: Operand) -> bool
         Operand::LocalPresent(k) => local_present_right(modfile, shape, gate, k as u16),
         Operand::SwitchEarlier(k) => switch_earlier_right(modfile, shape, gate, k as u16),
         Operand::SwitchPresent(k) => switch_present_right(modfile, shape, gate, k as u16),
-        Operand::None => false,
+        Operand::None(_) => false,
     }
 }
 
@@ -198,7 +198,7 @@ fn reads_source(modfile: &[u8], shape: Shape, gate: Gate, a: Operand) -> bool
 fn is_none(a: Operand) -> bool
     ensures { λ r. ⌜ r ≡ eqb (partOf a) noPart ⌝ }
 {
-    let Operand::None = a else {
+    let Operand::None(_) = a else {
         return false;
     };
     true

@@ -6,7 +6,8 @@ ghost use Prim.Native.Nat.{_≤_};
 ghost use Rattle.gates.specs.Value.{Code};
 ghost use Rattle.gates.specs.Translation.{isTranslation, isConstant, translation};
 ghost use Rattle.gates.specs.Function.{isFunction, function};
-ghost use Rattle.gates.specs.Gate.{gate, Legal};
+ghost use Rattle.gates.specs.Gate.{gate};
+ghost use Rattle.gates.specs.Legal.{Legal};
 ghost use Rattle.gates.specs.Table.{FunctionTable, TranslationTable, GateTables};
 
 mod table;

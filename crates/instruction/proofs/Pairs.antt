@@ -20,10 +20,6 @@ pub part-of-pair : (part k : ℕ) → (part ≤ switchPresent) ⊎ (part ≡ noP
 unfolding operandOf
 part-of-pair part k = each-part (λ x. partOf (operandOf x k) ≡ x) refl refl refl refl refl part
 
--- "Part 9 with location 0 means none"
-pub location-of-pair : (part k : ℕ) → (part ≤ switchPresent) ⊎ (part ≡ noPart) → (part ≡ noPart → k ≡ 0)
-    → locationOf (operandOf part k) ≡ k
+pub location-of-pair : (part k : ℕ) → (part ≤ switchPresent) ⊎ (part ≡ noPart) → locationOf (operandOf part k) ≡ k
 unfolding operandOf
-location-of-pair part k =
-    each-part (λ x. (x ≡ noPart → k ≡ 0) → locationOf (operandOf x k) ≡ k) (λ z. refl) (λ z. refl) (λ z. refl) (λ z. refl)
-    (λ z. sym (z refl)) part
+location-of-pair part k = each-part (λ x. locationOf (operandOf x k) ≡ k) refl refl refl refl refl part

@@ -14,19 +14,19 @@ operandOf part k =
     if eqb part localPresent then LocalPresent k else
     if eqb part switchEarlier then SwitchEarlier k else
     if eqb part switchPresent then SwitchPresent k else
-    None
+    None k
 
--- the pair of an operand: "Part 9 with location 0 means none" (01, Files)
+-- the pair of an operand: "Part 9 with location 0 means none" (01, Files); none keeps the location of its pair
 abbrev pub partOf : Operand → ℕ
 partOf (LocalEarlier k) = localEarlier
 partOf (LocalPresent k) = localPresent
 partOf (SwitchEarlier k) = switchEarlier
 partOf (SwitchPresent k) = switchPresent
-partOf None = noPart
+partOf (None k) = noPart
 
 abbrev pub locationOf : Operand → ℕ
 locationOf (LocalEarlier k) = k
 locationOf (LocalPresent k) = k
 locationOf (SwitchEarlier k) = k
 locationOf (SwitchPresent k) = k
-locationOf None = 0
+locationOf (None k) = k

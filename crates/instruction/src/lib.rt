@@ -4,13 +4,14 @@ ghost use mathlib.Core.Path.{_≡_};
 ghost use Rattle.instruction.specs.Operand.{operandOf};
 ghost use Rattle.instruction.specs.Sender.{senderLaid};
 
-// What a pair of a table line names: a location of one of the four parts, in the order of their numbers, or none.
+// What a pair of a table line names: a location of one of the four parts, in the order of their numbers, or none. None keeps the
+// pair's location, so that the location of an operand is read without asking which one it is.
 pub enum Operand {
     LocalEarlier(u8),
     LocalPresent(u8),
     SwitchEarlier(u8),
     SwitchPresent(u8),
-    None,
+    None(u8),
 }
 
 // A table line as it is executed: its signal (0: empty slot), what its operands and its send name, and the processor that it receives
@@ -34,7 +35,7 @@ pub fn operand_of(part: u16, location: u8) -> Operand
         1 => Operand::LocalPresent(location),
         2 => Operand::SwitchEarlier(location),
         3 => Operand::SwitchPresent(location),
-        _ => Operand::None,
+        _ => Operand::None(location),
     }
 }
 

@@ -5,7 +5,7 @@ use mathlib.Core.List.{List}
 use mathlib.Core.Logic.{_⊎_, inl, inr}
 use native.Mathlib.Omega.{arith}
 use borrow.Author.Tests.{ne-eqb}
-use Rattle.gates.specs.Gate.{Legal}
+use Rattle.gates.specs.Legal.{Legal}
 use Rattle.model.specs.Module.{At, noSender}
 use Rattle.model.specs.Machine.{Memory, fetch, operand, result, sent}
 use Rattle.instruction.specs.Operand.{operandOf, partOf, locationOf}

@@ -9,7 +9,7 @@ ghost use Prim.Native.Nat.{_<_, _≤_};
 ghost use mathlib.Core.Bool.{not};
 ghost use lib.Dec.{eqb};
 ghost use lib.ListN.{length, getD};
-ghost use Rattle.gates.specs.Gate.{Legal};
+ghost use Rattle.gates.specs.Legal.{Legal};
 ghost use Rattle.gates.specs.Table.{GateTables};
 ghost use Rattle.model.specs.Module.{localPresent, switchPresent, noSender};
 ghost use Rattle.model.specs.Machine.{sent as sentBy, slot as slotDone};

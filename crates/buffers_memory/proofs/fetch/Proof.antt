@@ -10,7 +10,7 @@ returns c =
     let located = c .before .location-of .ensures in
     let based = c .before .before .part-base .ensures in
     let s = c .before .before .before .before in (
-      rw (based .0, located .0) (fetched-there (s .args .memory .now) _ (s .args .a) (s .pre .0) (s .pre .1)),
+      rw (based .0, located .0) (fetched-there (s .args .memory .now) _ (s .args .a) (s .pre .0) (s .pre .1) (omega (arith, located))),
       s .pre .0 .values _ (omega (arith, based .1, located .1, s .pre .1)),
     )
 

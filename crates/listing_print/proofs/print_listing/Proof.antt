@@ -43,7 +43,8 @@ loop-holds c =
 abbrev made : tie.At-loop Inv-loop μ-loop → tie.After-translations Inv-loop μ-loop
 made loop =
     let opened = loop .before .before .before .before .before .before .before in
-    opened .before .before .before .before .before .before .before .before .before
+    let buffers = opened .before .before .before .before .before in
+    buffers .before .before .before .before
 
 slice-aggregate-step : tie.Need-slice-aggregate-step Inv-loop μ-loop
 slice-aggregate-step c = sym (made (c .before .before) .before .functions .ensures .size)
