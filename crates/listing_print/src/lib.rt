@@ -67,7 +67,7 @@ pub fn print_refusal(
     put(net, modfile, stim, &line[..length], parts, failed);
 }
 
-// The listing, piece by piece, until one can not be written.
+// The listing, piece by piece, until one can not be written. The tables of the gates are made once and lent to every step.
 pub fn print_listing(
     net: &[u8],
     modfile: &[u8],

@@ -83,7 +83,7 @@ fn read_in(panel: &[u8], memory: &[u8], signal: u32) -> u64
     answer.bits()
 }
 
-// A run, on buffers in range.
+// A run, on buffers in range. The tables of the gates are made once for all its cycles.
 fn run_in(panel: &mut [u8], program: &[u8], memory: &mut [u8], cycles: u32) -> u64
     requires { ⌜ Tables (now panel) (now program) ⌝ }
     requires { ⌜ Watching (now panel) (headIn (now panel) .watch) ⌝ }
