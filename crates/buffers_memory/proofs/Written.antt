@@ -156,30 +156,33 @@ written-same test w u old agree =
 abbrev pub Coded : (ℕ → ℕ → Bool) → Memory → Type 0
 Coded test w = (p part k : ℕ) → Place p part k → part < blank → test p k ≡ true → Code (fetch w p part k)
 
--- the bytes stay values, and the fifth parts blank
+-- bytes that are values stay so
+pub written-values : (test : ℕ → ℕ → Bool) (w : Memory) (old : List ℕ) → Coded test w
+    → ((p part k : ℕ) → Place p part k → Code (getD old (place p part k) 0))
+    → (p part k : ℕ) → Place p part k → Code (getD (written test w old) (place p part k) 0)
+written-values test w old coded values p part k there =
+    subst Code (sym (written-at test w old there)) (go (test p k) refl (ltb part blank) refl)
+  where
+    go : (t : Bool) → test p k ≡ t → (b : Bool) → ltb part blank ≡ b → Code (writtenAt test w old p part k)
+    go true t true b =
+        let l = ltb-true part blank b in
+        subst Code (sym (written-here test w old p part k t l)) (coded p part k there l t)
+    go true t false b = subst Code (sym (written-blank test w old p part k (ltb-false part blank b))) (values p part k there)
+    go false t b e = subst Code (sym (written-else test w old p part k t)) (values p part k there)
+
+-- and the fifth parts blank
 pub written-bytes : (test : ℕ → ℕ → Bool) (w : Memory) (old : List ℕ) → Coded test w → MemoryBytes old → MemoryBytes (written test w old)
 written-bytes test w old coded h =
     record {
       size = written-length test w old;
-      values = λ a l. subst (λ (x : ℕ). Code (getD (written test w old) x 0)) (sym (byte-is a)) (at (byte-place a l));
+      values = λ a l.
+          subst (λ (x : ℕ). Code (getD (written test w old) x 0)) (sym (byte-is a))
+          (written-values test w old coded (λ p part k there. h .values (place p part k) (place-low there)) _ _ _ (byte-place a l));
       blanks = λ p k l b.
           written-at test w old (record { processor-low = l; part-low = omega arith; location-low = b })
           ∙ written-blank test w old p blank k (omega arith)
           ∙ h .blanks p k l b;
     }
-  where
-    at : {p part k : ℕ} → Place p part k → Code (getD (written test w old) (place p part k) 0)
-    at {p} {part} {k} there = subst Code (sym (written-at test w old there)) (go (test p k) refl (ltb part blank) refl)
-      where
-        kept : Code (getD old (place p part k) 0)
-        kept = h .values (place p part k) (place-low there)
-
-        go : (t : Bool) → test p k ≡ t → (b : Bool) → ltb part blank ≡ b → Code (writtenAt test w old p part k)
-        go true t true b =
-            let l = ltb-true part blank b in
-            subst Code (sym (written-here test w old p part k t l)) (coded p part k there l t)
-        go true t false b = subst Code (sym (written-blank test w old p part k (ltb-false part blank b))) kept
-        go false t b e = subst Code (sym (written-else test w old p part k t)) kept
 
 -- what is written last stays
 pub written-over : (test : ℕ → ℕ → Bool) (w u : Memory) (old : List ℕ) → written test u (written test w old) ≡ written test u old

@@ -1,24 +1,21 @@
 -- A memory in range holds codes at the module's locations, cycles of the machine keep codes there, and bytes that take them in stay in
 -- range.
 use Prim.Native.Nat.{ℕ, zero, suc, _≤_}
-use mathlib.Core.Path.{_≡_, refl, sym, subst, _∙_}
+use mathlib.Core.Path.{_≡_, sym, subst, _∙_}
 use mathlib.Core.Bool.{Bool, true, false}
 use mathlib.Core.List.{List}
 use lib.Dec.{ltb}
 use lib.ListN.{getD}
-use borrow.Author.Tests.{ltb-true}
 use Rattle.logic.specs.Test.{_and_}
-use Rattle.logic.proofs.Tests.{and-left, and-right}
 use Rattle.model.specs.Network.{Signal}
 use Rattle.model.specs.Module.{Laid}
 use Rattle.model.specs.Machine.{Memory, cycle}
 use Rattle.model.specs.Session.{runs, ticks}
-use Rattle.model.proofs.Machine.{Small, fetch-small, cycle-small}
+use Rattle.model.proofs.Machine.{Small, cycle-small}
 use Rattle.model.proofs.Runs.{runs-exact}
 use Rattle.buffers_memory.specs.Memory.{blank, place, memoryOf, writtenAt, within, withMemory}
-use Rattle.buffers_memory.proofs.Written.{Place, written-at, written-here}
-use Rattle.buffers_memory.proofs.Within.{within-true}
-use Rattle.buffers_memory.proofs.Values.{places-small}
+use Rattle.buffers_memory.proofs.Written.{Place, written-at, written-values}
+use Rattle.buffers_memory.proofs.Values.{places-small, small-coded}
 use Rattle.buffers_tables.specs.Panel.{processorsIn, slotsIn}
 use Rattle.buffers_tables.specs.Tables.{networkIn, moduleIn}
 use Rattle.buffers_tables.proofs.Codes.{gates-small}
@@ -62,24 +59,11 @@ module _ (panel program old : List ℕ) (w : Memory) where
   unfolding writtenAt
   held-else {p} {part} {k} a e = written-at (within (processorsIn panel) (slotsIn panel)) w old a ∙ rw e
 
-  held-here : Small (moduleIn panel program) w → {p part k : ℕ} → Place p part k → test p part k ≡ true → getD now (place p part k) 0 ≤ 3
-  unfolding moduleIn
-  held-here small {p} {part} {k} a e =
-      let inside = and-left _ _ e in
-      let l = ltb-true part blank (and-right _ _ e) in
-      let low = within-true (processorsIn panel) (slotsIn panel) p k inside in
-      subst (λ (x : ℕ). x ≤ 3)
-      (sym (written-at (within (processorsIn panel) (slotsIn panel)) w old a
-      ∙ written-here (within (processorsIn panel) (slotsIn panel)) w old p part k inside l))
-      (fetch-small small p part k (record { processor = low .0; slot = low .1 }) l)
-
   pub with-memory-values : Small (moduleIn panel program) w → Values panel old → Values panel now
+  unfolding moduleIn
   with-memory-values small v =
       record {
-        values = λ {p} {part} {k} a. go p part k a (test p part k) refl;
+        values = λ {p} {part} {k} a.
+            written-values (within (processorsIn panel) (slotsIn panel)) w old (small-coded (moduleIn panel program) small) (λ q x j there. v .values there) p part k a;
         rest = λ a e. held-else a e ∙ v .rest a e;
       }
-    where
-      go : (p part k : ℕ) → Place p part k → (b : Bool) → test p part k ≡ b → getD now (place p part k) 0 ≤ 3
-      go p part k a true e = held-here small a e
-      go p part k a false e = subst (λ (x : ℕ). x ≤ 3) (sym (held-else a e)) (v .values a)

@@ -1,5 +1,5 @@
 -- A run of one cycle that nothing stops, on buffers in range.
-use Prim.Native.Nat.{ℕ, _+_, _^_, _≤_}
+use Prim.Native.Nat.{ℕ, _+_, _^_}
 use mathlib.Core.Path.{_≡_, sym, subst, _∙_, ap}
 use mathlib.Core.Bool.{false}
 use mathlib.Core.List.{List}
@@ -7,12 +7,12 @@ use native.Mathlib.Omega.{arith}
 use native.Mathlib.Nat.{zero-div}
 use Rattle.model.specs.Machine.{Memory}
 use Rattle.model.specs.Session.{Watch, run, ran, Run, Outcome, watched, runs, unlessStopped, ticks}
-use Rattle.model.specs.Network.{Signal}
 use Rattle.model.proofs.Machine.{Small}
 use Rattle.buffers_memory.specs.Memory.{memoryOf, withMemory, MemoryBytes}
 use Rattle.buffers_memory.proofs.Written.{written-length}
 use Rattle.buffers_tables.specs.Panel.{processorsIn, slotsIn, handIn}
-use Rattle.buffers_tables.specs.Tables.{networkIn, moduleIn, Tables}
+use Rattle.buffers_tables.proofs.Codes.{hands-small}
+use Rattle.buffers_tables.specs.Tables.{moduleIn, Tables}
 use Rattle.buffers_range.proofs.Ranged.{Values, is-ranged, panel-in-range, program-in-range, memory-in-range, ranged-tables, ranged-memory}
 use Rattle.machine_run.specs.Running.{watchOf, cycleIn, runIn, Watching}
 use Rattle.session_state.specs.declared.Session.{Session}
@@ -40,13 +40,9 @@ module _ {panel program memory : List ℕ} (right : RightBuffers panel program m
   pub right-memory : MemoryBytes memory
   right-memory = ranged-memory panel program memory (right .sizes .memory-size) (right .range)
 
-  codes : (s : ℕ) → Signal (networkIn panel program) s → handIn panel s ≤ 3
-  unfolding networkIn
-  codes s g = panel-in-range panel program memory (right .range) .signals s (g .low) (g .high) .hand-high
-
   small : Small (moduleIn panel program) (cycleIn panel program (memoryOf memory))
   unfolding ticks
-  small = ticks-small panel program (right-tables .laid) (handIn panel) codes 1 (memoryOf memory) (small-in panel program memory (right .range))
+  small = ticks-small panel program (right-tables .laid) (handIn panel) (hands-small panel program right-tables) 1 (memoryOf memory) (small-in panel program memory (right .range))
 
   -- the buffers after a cycle are right
   pub cycle-right : (left : List ℕ) → left ≡ withMemory (processorsIn panel) (slotsIn panel) (cycleIn panel program (memoryOf memory)) memory
