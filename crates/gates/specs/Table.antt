@@ -24,6 +24,7 @@ pub record TranslationTable (table : List ℕ) : Type 0 where
   pub size : length table ≡ 28
   pub rules : (g v : ℕ) → g ≤ 6 → Code v → getD table (translationEntry g v) 0 ≡ translation g v
 
+-- the two tables that a gate is evaluated by
 pub record GateTables (functions translations : List ℕ) : Type 0 where
   pub functions-right : FunctionTable functions
   pub translations-right : TranslationTable translations

@@ -15,26 +15,26 @@ use Rattle.gates.specs.Function.{function}
 use Rattle.gates.specs.Table.{functionEntry, FunctionTable, translationEntry, TranslationTable}
 
 -- every entry from place k on is what the rule has for its place
-unfoldable pub follows : (ℕ → ℕ) → ℕ → List ℕ → Bool
-follows rule k [] = true
-follows rule k (x ∷ xs) = eqb x (rule k) and follows rule (suc k) xs
+unfoldable pub ruled : (ℕ → ℕ) → ℕ → List ℕ → Bool
+ruled rule k [] = true
+ruled rule k (x ∷ xs) = eqb x (rule k) and ruled rule (suc k) xs
 
 module _ (rule : ℕ → ℕ) where
-  from : (l : List ℕ) (i : ℕ) → follows rule i l ≡ true → (k : ℕ) → k < length l → getD l k 0 ≡ rule (i + k)
-  unfolding follows
+  from : (l : List ℕ) (i : ℕ) → ruled rule i l ≡ true → (k : ℕ) → k < length l → getD l k 0 ≡ rule (i + k)
+  unfolding ruled
   from [] i t k h = absurd (not-suc-le-zero h)
   from (x ∷ xs) i t zero h = subst (λ (m : ℕ). x ≡ rule m) (sym (add-zero i)) (eqb-true _ _ (and-left _ _ t))
   from (x ∷ xs) i t (suc k) h =
       subst (λ (m : ℕ). getD xs k 0 ≡ rule m) (suc-add i k ∙ sym (add-suc i k)) (from xs (suc i) (and-right _ _ t) k (le-of-suc-le-suc h))
 
-  carried : (l : List ℕ) → follows rule 0 l ≡ true → (k : ℕ) → k < length l → getD l k 0 ≡ rule k
+  carried : (l : List ℕ) → ruled rule 0 l ≡ true → (k : ℕ) → k < length l → getD l k 0 ≡ rule k
   carried l t k h = subst (λ (m : ℕ). getD l k 0 ≡ rule m) (zero-add k) (from l 0 t k h)
 
 -- what stands at place k by the five rules: function k / 256 of the operands that k is made of
 abbrev pub functionAt : ℕ → ℕ
 functionAt k = function (k / 256) (k / 64 % 4) (k / 16 % 4) (k / 4 % 4) (k % 4)
 
-pub function-table : (l : List ℕ) → length l ≡ 1280 → follows functionAt 0 l ≡ true → FunctionTable l
+pub function-table : (l : List ℕ) → length l ≡ 1280 → ruled functionAt 0 l ≡ true → FunctionTable l
 function-table l size t =
     record {
       size = size;
@@ -52,7 +52,7 @@ function-table l size t =
 abbrev pub translationAt : ℕ → ℕ
 translationAt k = translation (k / 4) (k % 4)
 
-pub translation-table : (l : List ℕ) → length l ≡ 28 → follows translationAt 0 l ≡ true → TranslationTable l
+pub translation-table : (l : List ℕ) → length l ≡ 28 → ruled translationAt 0 l ≡ true → TranslationTable l
 translation-table l size t =
     record {
       size = size;
