@@ -64,7 +64,6 @@ module _ (session : Session) (panel program memory : List ℕ) (ready : Ready se
         signal-high = omega (arith, ready .watched-high, r .head .signals-high);
         processor-low = signal .processor-low;
         slot-low = signal .slot-low;
-        mask-high = omega (arith, ready .mask);
       }
 
   -- the run is never refused, and does its cycle

@@ -1,3 +1,2 @@
 pub mod Cycles
 pub mod Tables
-pub mod Masks

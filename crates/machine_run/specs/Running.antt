@@ -23,9 +23,8 @@ watchOf w = record { signal = w .signal; mask = w .mask }
 unfoldable pub runIn : List ℕ → List ℕ → Watch → ℕ → Memory → Run Memory
 runIn panel program watch k w = runs (cycleIn panel program) (λ y. watched (watch .mask) (valueIn panel y (watch .signal))) k w
 
--- the watch is in range: its signal has a place of the module, and its mask is "0 to 15"
+-- the watch is in range: its signal has a place of the module
 pub record Watching (panel : List ℕ) (watch : Watch) : Type 0 where
   pub signal-high : watch .signal ≤ 4096
   pub processor-low : processorIn panel (watch .signal) < processorsIn panel
   pub slot-low : slotIn panel (watch .signal) < slotsIn panel
-  pub mask-high : watch .mask ≤ 15

@@ -6,6 +6,7 @@ use instruction::Operand;
 ghost use mathlib.Core.Path.{_≡_};
 ghost use Prim.Native.Nat.{_<_, _≤_};
 ghost use lib.ListN.{length};
+ghost use Rattle.gates.specs.Value.{Code};
 ghost use Rattle.gates.specs.Table.{GateTables};
 ghost use Rattle.model.specs.Machine.{slots as slotsDone};
 ghost use Rattle.model.specs.Session.{watched};
@@ -87,23 +88,17 @@ fn run_cycle(
 
 // The mask has the bit of a value: "bit v of weight 2^v for value v".
 fn shows(mask: u8, value: u8) -> bool
-    requires { ⌜ mask ≤ 15 ⌝ }
+    requires { ⌜ Code value ⌝ }
     ensures { λ r. ⌜ r ≡ watched mask value ⌝ }
 {
-    match value {
-        0 => mask % 2 == 1,
-        1 => mask / 2 % 2 == 1,
-        2 => mask / 4 % 2 == 1,
-        3 => mask / 8 % 2 == 1,
-        _ => false,
-    }
+    (mask >> value) % 2 == 1
 }
 
 // The value of a signal at the end of the last finished cycle: that of its place, in the half that this cycle stored.
 pub fn value_of(panel: &[u8], memory: &[u8], signal: u16) -> u8
     requires { ⌜ (length (now panel) ≡ panelLength) × (signal ≤ 4096) × (processorIn (now panel) signal < 16) ⌝ }
     requires { ⌜ MemoryBytes (now memory) ⌝ }
-    ensures { λ r. ⌜ r ≡ memoryOf (now (memory .entry)) .earlierLocal (processorIn (now (panel .entry)) signal) (slotIn (now (panel .entry)) signal) ⌝ }
+    ensures { λ r. ⌜ (r ≡ memoryOf (now (memory .entry)) .earlierLocal (processorIn (now (panel .entry)) signal) (slotIn (now (panel .entry)) signal)) × Code r ⌝ }
 {
     let s = signal as usize;
     let processor = buffers_tables::place_processor(panel, s);

@@ -18,7 +18,6 @@ ranged-watching panel program memory h =
       signal-high = omega (arith, head .watched-high, head .signals-high);
       processor-low = signal .processor-low;
       slot-low = signal .slot-low;
-      mask-high = head .mask-high;
     }
 
 pub ranged-processor : (panel program memory : List ℕ) → ranged panel program memory ≡ true → (s : ℕ) → 1 ≤ s → s ≤ signalsIn panel

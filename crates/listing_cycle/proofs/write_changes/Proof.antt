@@ -39,7 +39,7 @@ loop-again c =
     let read = turn .before .before in
     let size = read .signals .ensures in
     let s = read .before .before .before .before .before in
-    written-more (turn .before .loop .inv) _ _ _ _ (turn .loop-test .taken) (omega (arith, s .pre .0 .1)) (valued .value-of .ensures) (w .0) (w .1 .0) (w .1 .1)
+    written-more (turn .before .loop .inv) _ _ _ _ (turn .loop-test .taken) (omega (arith, s .pre .0 .1)) (valued .value-of .ensures .0) (w .0) (w .1 .0) (w .1 .1)
 
 same-length : tie.Need-same-length Inv-loop μ-loop
 same-length c = c .before .loop .inv .size ∙ sym (c .before .before .before .before .before .before .before .pre .1 .1 .1 .0)

@@ -53,7 +53,7 @@ returns c =
     let t = start .pre .0 in
     let done = loop .loop .done in
     let next = one-more t _ done (loop .loop .inv .2) (ran .run-cycle .ensures) in
-    let shown = told t _ (watchOf (start .args .watch)) (start .pre .1 .0) (done + 1) next (c .before .before .value-of .ensures) (c .before .shows .ensures) in
+    let shown = told t _ (watchOf (start .args .watch)) (start .pre .1 .0) (done + 1) next (c .before .before .value-of .ensures .0) (c .before .shows .ensures) in
     stopped-run t _ (watchOf (start .args .watch)) _ done (omega arith) (loop .loop .inv .3) next (shown ∙ c .if1 .taken)
 
 loop-again : tie.Need-loop-again Inv-loop μ-loop
@@ -64,7 +64,7 @@ loop-again c =
     let t = start .pre .0 in
     let done = loop .loop .done in
     let next = one-more t _ done (loop .loop .inv .2) (ran .run-cycle .ensures) in
-    let shown = told t _ (watchOf (start .args .watch)) (start .pre .1 .0) (done + 1) next (c .before .before .value-of .ensures) (c .before .shows .ensures) in
+    let shown = told t _ (watchOf (start .args .watch)) (start .pre .1 .0) (done + 1) next (c .before .before .value-of .ensures .0) (c .before .shows .ensures) in
     (omega arith, cycle-bytes t (loop .loop .memory) (loop .loop .inv .1) (ran .run-cycle .ensures), next, still-quiet t _ (watchOf (start .args .watch)) done (loop .loop .inv .3) (shown ∙ c .if1 .left))
 
 returns-2 : tie.Need-returns-2 Inv-loop μ-loop

@@ -20,10 +20,12 @@ unfolding fetch
 returns c =
     let placed = c .before .before in
     let s = placed .before .before .before in
-    let memory = memoryOf (s .args .memory .now) in
-    c .fetch .ensures .0
-    ∙ ap (λ (k : ℕ). memory .earlierLocal (placed .place-processor .result) k) (c .before .place-slot .ensures)
-    ∙ ap (λ (p : ℕ). memory .earlierLocal p (slotIn (s .args .panel .now) (s .args .signal))) (placed .place-processor .ensures .0)
+    let memory = memoryOf (s .args .memory .now) in (
+      c .fetch .ensures .0
+          ∙ ap (λ (k : ℕ). memory .earlierLocal (placed .place-processor .result) k) (c .before .place-slot .ensures)
+          ∙ ap (λ (p : ℕ). memory .earlierLocal p (slotIn (s .args .panel .now) (s .args .signal))) (placed .place-processor .ensures .0),
+      c .fetch .ensures .1,
+    )
 
 pub value-of-spec : {M : Type 1} → statement M
 value-of-spec = tie.close (tie.spec (λ c κs. search needs) (λ c κs. search needs) fetch-requires returns)

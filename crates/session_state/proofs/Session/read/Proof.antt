@@ -40,7 +40,7 @@ returns-2 c =
     λ program.
     tells _ _ _ _ _
     (read-done (s .args .panel .now) program (s .args .memory .now) (headOf (s .args .self) (s .args .panel .now)) (s .args .signal) (passes _ _ (c .before .before .is-signal .ensures) (c .before .if1 .left)))
-    (ap (λ (x : ℕ). value x) (c .value-of .ensures)) refl refl (sym (hands-own _ (s .pre .0 .0)))
+    (ap (λ (x : ℕ). value x) (c .value-of .ensures .0)) refl refl (sym (hands-own _ (s .pre .0 .0)))
 
 pub read-spec : {M : Type 1} → statement M
 read-spec =
