@@ -26,7 +26,8 @@ and_left false b p = p
 pub and_right : (a b : Bool) → a and b ≡ true → b ≡ true
 unfolding ◌and◌
 and_right true b p = p
-and_right false b p = elim b [ true ↦ refl | false ↦ p ]
+and_right false true p = refl
+and_right false false p = p
 
 pub or_cases : (a b : Bool) → a or b ≡ true → (a ≡ true) ⊎ (b ≡ true)
 unfolding ◌or◌
