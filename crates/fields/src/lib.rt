@@ -1,5 +1,7 @@
 // Six-column fields and their lines, read at any place of a byte slice.
 
+#![tactic(auto)]
+
 ghost use Rattle.std.specs.Prelude.{◌≡◌, true, ℕ, ◌+◌, ◌*◌, ◌%◌, ◌<◌, ◌≤◌, eqb, length, get_or};
 ghost use Rattle.logic.specs.Test.{all};
 ghost use Rattle.fields.specs.Field.{is_field_at, number_at};

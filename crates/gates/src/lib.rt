@@ -1,6 +1,8 @@
 // Four-valued gates: translations, functions, and the gate g5(f(g1(a1), g2(a2), g3(a3), g4(a4))). All are taken from tables.
 // Codes of a value: 0, 1, 2 (U, undefined), 3 (Z, floating).
 
+#![tactic(auto)]
+
 ghost use Rattle.std.specs.Prelude.{◌≡◌, ◌≤◌};
 ghost use Rattle.gates.specs.Value.{Code};
 ghost use Rattle.gates.specs.Translation.{is_translation, is_constant, translation};

@@ -1,5 +1,7 @@
 // Graphs of numbered nodes, given as slices of numbers: how far each node stands above its feeders.
 
+#![tactic(auto)]
+
 ghost use Rattle.std.specs.Prelude.{◌≡◌, ◌<◌, ◌≤◌, length, get_or, replicate};
 ghost use Rattle.graph_ranks.specs.Graph.{places, Entries, Graph};
 ghost use Rattle.graph_ranks.specs.Ranks.{Ranked};

@@ -1,5 +1,7 @@
 // Numbers of two bytes, the low one first.
 
+#![tactic(auto)]
+
 ghost use Rattle.std.specs.Prelude.{◌≡◌, ◌+◌, ◌*◌, ◌<◌, ◌≤◌, length};
 ghost use Rattle.words.specs.Word.{word};
 ghost use Rattle.words.specs.Stored.{word_stored};

@@ -1,0 +1,11 @@
+-- The entry read is that of g and v, and a translation of a value is a value.
+use mathlib.Core.Path.{sym, subst}
+use Rattle.gates.specs.Value.{Code}
+use Rattle.gates.proofs.Legal.{translation_code}
+use borrow.Author.Rules.{rules}
+use Rattle.gates.proofs.translate.Goals as goal
+
+pub returns : goal.returns
+returns c =
+    let is = c.requires.translation_table.rules _ _ c.requires.g_bound.0 c.requires.g_bound.1 in
+    (is, subst Code (sym is) (translation_code _ c.requires.g_bound.1))
