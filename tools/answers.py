@@ -497,6 +497,11 @@ def turn(names, crate, root, only):
             u = (unf + "\n") if unf else ""
             if len(clauses) > 1:
                 lets, parts = nested(term, len(clauses))
+                bare = split_lets(term)[1]
+                if parts is None and not re.match(r"(rw|simp|search|omega|grind|cc|elim|λ|sym|subst|absurd|let)\b", bare):
+                    # one lemma for all clauses: its parts
+                    n = len(clauses)
+                    parts = [f"({bare})" + ".1" * k + (".0" if k < n - 1 else "") for k in range(n)]
                 if parts is None:
                     fun.look(f"{goal}: several clauses, and no tuple")
                     answers.append((goal, f"{head}pub {goal} : goal.{goal}\n{u}{goal} c =\n    {term}"))
@@ -568,7 +573,7 @@ def pick(crate, root, log):
                 print(f"look: {f}: no old answer for {w}")
         for w in sorted(want):
             if "-clause-" in w and w not in have and w.split("-clause-")[0] in have:
-                chosen += [t for g, t in d["answers"] if g == w.split("-clause-")[0]]
+                chosen += [t for g, t in d["answers"] if g == w.split("-clause-")[0] and t not in chosen]
         if not chosen:
             continue
         body = "\n\n".join(chosen)

@@ -1,5 +1,7 @@
 // A file of the working folder read into a buffer, for every program.
 
+#![tactic(auto)]
+
 ghost use Rattle.std.specs.Prelude.{◌≤◌, length};
 ghost use Rattle.file_reading.specs.Got.{Brought};
 

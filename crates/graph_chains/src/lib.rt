@@ -1,5 +1,7 @@
 // Graphs of numbered nodes, given as slices of numbers: the smallest node on a loop.
 
+#![tactic(auto)]
+
 ghost use Rattle.std.specs.Prelude.{◌≡◌, ◌<◌, ◌≤◌, length};
 ghost use Rattle.graph_ranks.specs.Graph.{places, Entries, Graph, Loops, Decides, FirstLoop};
 ghost use Rattle.graph_ranks.specs.Ranks.{Ranked};

@@ -156,7 +156,9 @@ module _ {n : Network} {m : Module} (ok : Scheduled n m) where
             where
               go : Fits n m p i j → operand m w p i j ≡ value_of (past (wanted (n.kind (m.signal p i)))) (n.source (m.signal p i) j)
               go (unused e is) = rw (e, is)
-              go (carried h c) = fetched_young c (operand_at ok.laid a j l) h (wanted_age gate) ∙ sym (value_some _ _ h)
+              go (carried h c) =
+                  fetched_young c (operand_at ok.laid a j l) h (wanted_age gate)
+                  ∙ sym (value_some (past (wanted (n.kind (m.signal p i)))) (n.source (m.signal p i) j) h)
 
           gate_right : IsGate (n.kind (m.signal p i)) → result n m row w p i ≡ evaluate n (past (wanted (n.kind (m.signal p i)))) (m.signal p i)
           unfolding result evaluate
