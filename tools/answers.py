@@ -179,7 +179,13 @@ class Function:
 
     def path(self, i, fields):
         j, path = self.resolve(i, fields)
-        return ".".join(["c"] + path) if path is not None else "⟪" + str(j) + "⟫"
+        if path is None:
+            return "⟪" + str(j) + "⟫"
+        text = ".".join(["c"] + path)
+        # a test of !x says today what it says of x
+        if len(path) == 2 and path[0].startswith("if-not-") and path[1] in ("true", "false"):
+            return f"(ap not {text})"
+        return text
 
     def paths(self, text, env):
         # a navigation helper applied: (entry c.before).args
@@ -195,6 +201,35 @@ class Function:
             return self.path(*got) if got else m[0]
 
         return PATHTOKEN.sub(one, text)
+
+    functions, unfoldings = set(), []
+
+    def inline(self, text, here, answer=False):
+        """Helpers over a place: what they stand for is written out, but where an answer can cite them."""
+
+        def one(m):
+            n = m[1]
+            if n not in self.macros:
+                return m[0]
+            typ, body, unf, plain = self.macros[n]
+            if plain:
+                return f"({body})" if re.search(r"\s", body) else body
+            if answer:
+                return m[0]
+            if unf:
+                self.unfoldings = self.unfoldings + [unf]
+            return f"(let told : {typ} = {body} in told)"
+
+        text = re.sub(r"(?<![^\s(){}\[\];,])\(?(" + NAME + r") (?:⟪\d+⟫|c(?![^\s(){}\[\];,]))\)?(?=[\s)\],;]|$)", lambda m: one(m) if m[0].startswith("(") == m[0].endswith(")") else self.half(m, one), text)
+        if not answer:
+            text = text.replace(f"⟪{here}⟫", "c")
+        return text
+
+    def half(self, m, one):
+        t = one(m)
+        if t == m[0]:
+            return t
+        return ("(" if m[0].startswith("(") else "") + t + (")" if m[0].endswith(")") else "")
 
     def at(self, text, goal):
         """What stands for a whole place: its record, of the goal at hand."""
@@ -376,7 +411,7 @@ def turn(names, crate, root, only):
                 decls[last]["defs"].append(b)
         inv_names = {n for pair in inv for n in pair}
         # navigation helpers: from a place to a place
-        fun.navs = {}
+        fun.navs, fun.functions, fun.unfoldings = {}, set(), []
         for n in order:
             s = decls[n]["sig"]
             m = re.match(r"(?:abbrev |pub |unfoldable )*\S+ : tie\.(\S+)[^→]* → tie\.(\S+)[^→]*$", s)
@@ -446,24 +481,58 @@ def turn(names, crate, root, only):
                     continue
                 answered[j] = (n, None, decls[n]["unf"], decls[n]["comments"])
         goals_named = {v[0] for v in answered.values() if v[0]}
+        fun.macros = {}
         for n in order:
             if n in goals_named or n in inv_names or n in fun.navs:
                 continue
             dd = decls[n]
             whole = "\n".join(dd["comments"] + [dd["sig"]] + ([dd["unf"]] if dd["unf"] else []) + dd["defs"])
-            m = re.search(r"\((" + NAME + r") : tie\.(\S+?)((?: [^()]*)?)\)", whole)
-            if m and fun.place(m[2]) is not None:
-                i = fun.place(m[2])
+            if "tie." not in whole:
+                helpers.append(whole)
+                continue
+            m = re.match(r"((?:abbrev |pub |unfoldable )*)(\S+) : (?:\((" + NAME + r") : tie\.(\S+?)(?: [^()]*)?\)|tie\.(\S+)(?: (?:invariant|decreases)\S*)*) ?(→ )?", dd["sig"])
+            if dd.get("raw"):
+                mm = re.match(r"module _ \((" + NAME + r") : tie\.(\S+?)(?: [^()]*)?\)((?: \([^()]*\))*) where", dd["sig"])
+                i = mm and fun.place(mm[2])
+                if i is None:
+                    fun.look(f"section over {dd['sig'][:60]}")
+                    helpers.append(whole)
+                    continue
                 new = e["places_by_name"][i]
                 types.add(new)
-                whole = whole.replace(m[0], f"({m[1]} ∶∶ {new})")
-                whole = fun.convert(whole, {m[1]: (i, [])})
-                whole = re.sub(r"⟪(\d+)⟫", lambda q: (m[1] if int(q[1]) == i else "⟪" + e["places_by_name"][int(q[1])] + "⟫"), whole).replace("∶∶", ":")
-                if m[1] != "c":
-                    whole = whole.replace(f"({m[1]} : {new})", f"(c : {new})").replace("⟪", "⟪")
-            elif "tie." in whole:
+                body = whole[whole.index(dd["sig"]) + len(mm[0]) :]
+                body = fun.convert(body, {mm[1]: (i, [])})
+                body = fun.inline(body, i)
+                helpers.append("\n".join(dd["comments"] + [f"module _ (c : {new}){mm[3]} where"]) + body)
+                for inner in re.findall(r"(?m)^  (?:abbrev |pub )*(" + NAME + r") :", body):
+                    fun.functions.add(inner)
+                continue
+            df = dd["defs"]
+            if not m or fun.place(m[4] or m[5]) is None or len(df) != 1:
                 fun.look(f"helper {n} over {re.search('tie.[^ )]*', whole)[0]}")
-            helpers.append(whole)
+                helpers.append(whole)
+                continue
+            i = fun.place(m[4] or m[5])
+            new = e["places_by_name"][i]
+            d1 = re.match(re.escape(n) + r"((?:\s+\S+?)*?)\s*=(?![=])\s*(.*)$", df[0], re.S)
+            ps = d1[1].split()
+            typ = dd["sig"][m.end() :]
+            typ = fun.inline(fun.convert(typ, {m[3] or ps[0]: (i, [])}), i)
+            body = fun.inline(fun.convert(d1[2], {ps[0]: (i, [])}), i)
+            unf = list(dict.fromkeys(([dd["unf"]] if dd["unf"] else [])))
+            more = fun.unfoldings
+            fun.unfoldings = []
+            if more:
+                names_ = [w for u in unf + more for w in u.split()[1:]]
+                unf = ["unfolding " + " ".join(dict.fromkeys(names_))]
+            u = unf[0] if unf else None
+            if len(ps) == 1 and "(" + ps[0] not in typ and not re.match(r"\(\S+ :", typ):
+                fun.macros[n] = (typ, body, u, "abbrev" in m[1])
+            if "abbrev" in m[1] and n in fun.macros:
+                continue
+            fun.functions.add(n)
+            types.add(new)
+            helpers.append("\n".join(dd["comments"] + [f"{m[1]}{n} : (c : {new}) → {typ}"] + ([u] if u else []) + [f"{n} c{''.join(' ' + q for q in ps[1:])} =" + sep(body) + body]))
         for j, (n, term, unf, comments) in sorted(answered.items()):
             goal = needs[j][1]
             i = fun.place(e["asked_at"][j][0])
@@ -478,7 +547,11 @@ def turn(names, crate, root, only):
                 ps = m[1].split()
                 var = ps[0] if ps else "c"
             term = fun.convert(term, {var: (i, [])})
-            term = fun.at(term, goal)
+            term = fun.at(fun.inline(term, i, True), goal)
+            if fun.unfoldings:
+                names_ = [w for q in ([unf] if unf else []) + fun.unfoldings for w in q.split()[1:]]
+                unf = "unfolding " + " ".join(dict.fromkeys(names_))
+                fun.unfoldings = []
             callee = None
             parts = None
             mm = re.match(r"(.*)-requires(-\d+)?$", needs[j][0])
@@ -597,6 +670,12 @@ def pick(crate, root, log):
                     grown = True
         helpers = [d["helpers"][k] for k in sorted(picked)]
         body = "\n\n".join(helpers + chosen)
+        if "(ap not " in body:
+            have_ = " ".join(d["uses"])
+            if not re.search(r"[{ ]ap[,}]", have_):
+                d["uses"].append("use mathlib.Core.Path.{ap}")
+            if not re.search(r"[{ ]not[,}]", have_):
+                d["uses"].append("use mathlib.Core.Bool.{not}")
         if re.search(r"\brules\b", body) and not any("rules" in u for u in d["uses"]):
             d["uses"].append("use borrow.Author.Rules.{rules}")
         text = d["intro"] + "\n".join(used(d["uses"], body))

@@ -1,5 +1,7 @@
 // The working buffers as such: their lengths (01, Refusals, 40), and one value throughout.
 
+#![tactic(auto)]
+
 ghost use Rattle.std.specs.Prelude.{◌≡◌, length};
 ghost use Rattle.logic.specs.Listed.{listed};
 ghost use Rattle.model.specs.Session.{same_lengths};

@@ -1,5 +1,7 @@
 // The machine's memory: what an operand or a send of a table line fetches from it, and the change of its halves.
 
+#![tactic(auto)]
+
 ghost use Rattle.std.specs.Prelude.{◌≡◌, ◌+◌, ◌*◌, ◌<◌, ◌≤◌, length, get_or, set};
 ghost use Rattle.gates.specs.Value.{Code};
 ghost use Rattle.model.specs.Machine.{fetch as fetched, alternate as alternated};

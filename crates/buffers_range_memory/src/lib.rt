@@ -1,5 +1,7 @@
 // 44 (01, Refusals), of the memory: values in the locations of P processors and C slots, and zeros.
 
+#![tactic(auto)]
+
 ghost use Rattle.std.specs.Prelude.{◌≡◌, ◌+◌, ◌<◌, ◌≤◌, length};
 ghost use Rattle.buffers_memory.specs.Memory.{memory_length, part_stride, memory_parts};
 ghost use Rattle.buffers_tables.specs.Panel.{panel_length, slots_in};

@@ -1,5 +1,7 @@
 // 44 (01, Refusals), of the panel: the session's numbers, and those of each signal.
 
+#![tactic(auto)]
+
 ghost use Rattle.std.specs.Prelude.{◌≡◌, ◌≤◌, leb, length};
 ghost use Rattle.logic.specs.Test.{◌and◌};
 ghost use Rattle.buffers_tables.specs.Panel.{panel_length};

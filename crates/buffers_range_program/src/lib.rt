@@ -1,5 +1,7 @@
 // 44 (01, Refusals), of the program: the lines of P processors and C slots, and zeros.
 
+#![tactic(auto)]
+
 ghost use Rattle.std.specs.Prelude.{◌≡◌, ◌+◌, ◌<◌, ◌≤◌, eqb, leb, length};
 ghost use Rattle.logic.specs.Test.{one};
 ghost use Rattle.buffers_tables.specs.Panel.{panel_length, processors_in, slots_in};

@@ -1,5 +1,7 @@
 // Runs of bytes judged by their largest byte, without a way out, so that the compiler takes many bytes at once.
 
+#![tactic(auto)]
+
 ghost use Rattle.std.specs.Prelude.{◌≡◌, ◌+◌, ◌≤◌, leb, length, get_or};
 ghost use Rattle.logic.specs.Test.{all};
 ghost use Rattle.gates.specs.Translation.{is_translation};

@@ -1,5 +1,7 @@
 // The working tables, the panel and the program: where their layout has each number, and each of them read and written there.
 
+#![tactic(auto)]
+
 ghost use Rattle.std.specs.Prelude.{◌≡◌, ◌+◌, ◌<◌, ◌≤◌, length, get_or, set};
 ghost use Rattle.instruction.specs.Operand.{operand_of};
 ghost use Rattle.buffers_tables.specs.Panel.{panel_length, finished_place, watched_place, mask_place, signals_in, processors_in, slots_in, finished_in, watched_in, mask_in, kind_in, codes_in, hand_in, processor_in, slot_in};

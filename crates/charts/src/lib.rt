@@ -50,7 +50,7 @@ const SPACE: u8 = 32;
 const NEWLINE: u8 = 10;
 
 // What the call answers: done, or refused by 40, 46, 41 or 42.
-#[derive(Drop)]
+#[derive(Clone, Copy)]
 pub enum ChartAnswer {
     Done,
     WrongLength,

@@ -15,7 +15,7 @@ use file_net::NetAnswer;
 use file_stim::StimAnswer;
 
 // The files are accepted, or refused with a number and what it returns (01, Refusals).
-#[derive(Drop)]
+#[derive(Clone, Copy)]
 pub enum FileAnswer {
     Accepted,
     Refused(u8, u16),

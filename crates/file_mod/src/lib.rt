@@ -18,7 +18,7 @@ use file_mod_lines::{ModAnswer, Place, Shape};
 use file_mod_sources::{Judgement, judged_by};
 
 // What is judged of every line by itself: 24, 25 and 23.
-#[derive(Drop)]
+#[derive(Clone, Copy)]
 enum Test {
     Sends,
     Receptions,

@@ -1,5 +1,7 @@
 // The lines of MOD (01, Files and Refusals): 20 and 21, line by line.
 
+#![tactic(auto)]
+
 ghost use Rattle.std.specs.Prelude.{◌≡◌, true, ◌+◌, ◌*◌, ◌/◌, ◌%◌, ◌<◌, ◌≤◌};
 ghost use Rattle.fields.specs.Field.{is_field_at};
 ghost use Rattle.fields.specs.Line.{is_line_at};
@@ -13,7 +15,7 @@ use clock::Slot;
 use fields::{Field, Line};
 
 // MOD accepted with P and C, or refused: with a line, and at 22 with a signal.
-#[derive(Drop)]
+#[derive(Clone, Copy)]
 pub enum ModAnswer {
     Accepted(u16, u16),
     Misformed(u16),
@@ -25,14 +27,14 @@ pub enum ModAnswer {
 }
 
 // P and C, which line 1 gives.
-#[derive(Drop)]
+#[derive(Clone, Copy)]
 pub struct Shape {
     pub processors: u16,
     pub slots: u16,
 }
 
 // The processor and the slot that a line after the first stands for.
-#[derive(Drop)]
+#[derive(Clone, Copy)]
 pub struct Place {
     pub processor: u16,
     pub slot: Slot,

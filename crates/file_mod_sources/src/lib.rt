@@ -17,14 +17,14 @@ use file_mod_lines::{Place, Shape};
 use instruction::{Instruction, Operand};
 
 // What is found of a line's send, its reception or an operand: right, or refused by 24, 25 or 23.
-#[derive(Drop)]
+#[derive(Clone, Copy)]
 pub enum Judgement {
     Right,
     Wrong,
 }
 
 // The gate of an operand: its place, its kind, and the source that the operand has to read.
-#[derive(Drop)]
+#[derive(Clone, Copy)]
 struct Gate {
     place: Place,
     kind: u16,

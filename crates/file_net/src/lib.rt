@@ -1,5 +1,7 @@
 // NET: its refusals 10 to 13, judged on the bytes in place.
 
+#![tactic(auto)]
+
 ghost use Rattle.std.specs.Prelude.{◌≡◌, true, ◌≤◌};
 ghost use Rattle.fields.specs.Line.{is_line_at};
 ghost use Rattle.model.specs.Netlist.{net_size, net_header, net_surplus, net_chains, net_check};
@@ -12,7 +14,7 @@ use file_net_chains::first_chain;
 use file_net_line::{field, signal_layout, sources_right, ten_zeros};
 
 // What the check of NET answers: accepted with N, or the refusal with its line or signal.
-#[derive(Drop)]
+#[derive(Clone, Copy)]
 pub enum NetAnswer {
     Accepted(u16),
     Misformed(u16),

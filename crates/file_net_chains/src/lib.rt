@@ -1,5 +1,7 @@
 // The closed chains of NET (01, Refusals, 13): the smallest signal on a loop of its rank-order gates.
 
+#![tactic(auto)]
+
 ghost use Rattle.std.specs.Prelude.{◌≡◌};
 ghost use Rattle.model.specs.Netlist.{net_chains};
 ghost use Rattle.file_net_graph.specs.Lines.{Lines};

@@ -1,5 +1,7 @@
 // The rank-order gates of NET as a graph: which signals they are, and which of them feed which.
 
+#![tactic(auto)]
+
 ghost use Rattle.std.specs.Prelude.{◌≡◌, ◌+◌, ◌*◌, ◌<◌, ◌≤◌, eqb, length, replicate};
 ghost use Rattle.logic.specs.Test.{one};
 ghost use Rattle.file_net_graph.specs.Lines.{Lines};

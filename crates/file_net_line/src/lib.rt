@@ -1,6 +1,8 @@
 // A line of NET that has its form (01, Files and Refusals): what 11 asks of its layout and 12 of its sources, judged on
 // the bytes in place.
 
+#![tactic(auto)]
+
 ghost use Rattle.std.specs.Prelude.{◌≡◌, true, ◌+◌, ◌*◌, ◌<◌, ◌≤◌};
 ghost use Rattle.logic.specs.Test.{all};
 ghost use Rattle.gates.specs.Translation.{is_translation};

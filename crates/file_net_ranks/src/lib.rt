@@ -1,5 +1,7 @@
 // The ranks of the signals of NET (000, Rank-order simulation).
 
+#![tactic(auto)]
+
 ghost use Rattle.std.specs.Prelude.{◌≡◌, length};
 ghost use Rattle.model.specs.Netlist.{net_size, network};
 ghost use Rattle.model.specs.Checked.{Checked};

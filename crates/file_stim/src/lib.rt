@@ -1,5 +1,7 @@
 // STIM (01, Files): its check, with refusals 30, 31 and 32, and a cursor over the lines of an accepted STIM.
 
+#![tactic(auto)]
+
 ghost use Rattle.std.specs.Prelude.{◌≡◌, true, ◌<◌, eqb};
 ghost use Rattle.fields.specs.Line.{is_line_at};
 ghost use Rattle.model.specs.Network.{is_signal, input};
@@ -14,7 +16,7 @@ use clock::Cycle;
 use fields::Field;
 
 // What the check answers: how many lines stand before the end line; or the line of a refusal, 30, 31 or 32 in this order.
-#[derive(Drop)]
+#[derive(Clone, Copy)]
 pub enum StimAnswer {
     Accepted(u16),
     Misformed(u16),
@@ -23,7 +25,7 @@ pub enum StimAnswer {
 }
 
 // The numbers of a line.
-#[derive(Drop)]
+#[derive(Clone, Copy)]
 struct Numbers {
     time: Cycle,
     signal: u16,
@@ -31,20 +33,20 @@ struct Numbers {
 }
 
 // Whether a well-formed line lets checking go on, or decides the answer.
-#[derive(Drop)]
+#[derive(Clone, Copy)]
 enum Judged {
     ReadOn,
     Answered(StimAnswer),
 }
 
 // A place among the lines: how many are passed, and so the index of the next.
-#[derive(Drop)]
+#[derive(Clone, Copy)]
 pub struct Cursor {
     pub line: usize,
 }
 
 // What a line says: time, signal and value, with the cursor after it; or T, where it is the end line.
-#[derive(Drop)]
+#[derive(Clone, Copy)]
 pub enum Step {
     Given(Cycle, u16, u16, Cursor),
     End(Cycle),

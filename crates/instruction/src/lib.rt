@@ -1,12 +1,14 @@
 // "A location named by a table line has a part and a number" (01, One cycle of the machine).
 
+#![tactic(auto)]
+
 ghost use Rattle.std.specs.Prelude.{◌≡◌};
 ghost use Rattle.instruction.specs.Operand.{operand_of};
 ghost use Rattle.instruction.specs.Sender.{sender_laid};
 
 // What a pair of a table line names: a location of one of the four parts, in the order of their numbers, or none. None keeps the
 // pair's location, so that the location of an operand is read without asking which one it is.
-#[derive(Drop)]
+#[derive(Clone, Copy)]
 pub enum Operand {
     LocalEarlier(u8),
     LocalPresent(u8),
@@ -17,7 +19,7 @@ pub enum Operand {
 
 // A table line as it is executed: its signal (0: empty slot), what its operands and its send name, and the processor that it receives
 // from (99: none).
-#[derive(Drop)]
+#[derive(Clone, Copy)]
 pub struct Instruction {
     pub signal: u16,
     pub a1: Operand,

@@ -16,7 +16,7 @@ use file_stim::Cursor;
 use session_state::Session;
 
 // A listing on its way: the open session, the next line of STIM, T, and how many pieces were given.
-#[derive(Drop)]
+#[derive(Clone, Copy)]
 pub struct Lister {
     pub session: Session,
     pub cursor: Cursor,
@@ -25,7 +25,7 @@ pub struct Lister {
 }
 
 // A piece, which stands in the first bytes of a buffer, and the listing after it.
-#[derive(Drop)]
+#[derive(Clone, Copy)]
 pub struct Piece {
     pub lister: Lister,
     pub length: usize,

@@ -16,7 +16,7 @@ use file_stim::{Cursor, Step};
 use session_state::Session;
 
 // A session that has its settings for a cycle, and the line of STIM after them.
-#[derive(Drop)]
+#[derive(Clone, Copy)]
 pub struct Settled {
     pub session: Session,
     pub cursor: Cursor,

@@ -14,14 +14,14 @@ use clock::{Cycle, Slot};
 use instruction::Operand;
 
 // "the one watch": its signal, and the mask of the values that it watches.
-#[derive(Drop)]
+#[derive(Clone, Copy)]
 pub struct Watch {
     pub signal: u16,
     pub mask: u8,
 }
 
 // What a run answers: "the cycles done and whether it stopped".
-#[derive(Drop)]
+#[derive(Clone, Copy)]
 pub struct Ran {
     pub done: Cycle,
     pub stopped: bool,

@@ -1,5 +1,7 @@
 // One slot of the lockstep machine: "every processor fetches first, then stores" (01, One cycle of the machine).
 
+#![tactic(auto)]
+
 ghost use Rattle.std.specs.Prelude.{◌≡◌, ◌<◌, ◌≤◌, not, eqb, length, get_or};
 ghost use Rattle.gates.specs.Legal.{Legal};
 ghost use Rattle.gates.specs.Table.{GateTables};

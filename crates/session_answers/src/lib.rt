@@ -1,5 +1,7 @@
 // The answers of the calls that C makes, as cases and as 64 bits.
 
+#![tactic(auto)]
+
 ghost use Rattle.std.specs.Prelude.{◌≡◌};
 ghost use Rattle.model.specs.Session.{refused, ran};
 ghost use Rattle.session_answers.specs.Answers.{call_answer, answer_bits};
@@ -7,7 +9,7 @@ ghost use Rattle.session_answers.specs.Answers.{call_answer, answer_bits};
 use clock::Cycle;
 
 // What a call answers: refused (01, Refusals), done, the value read, or the cycles of a run and whether it stopped.
-#[derive(Drop)]
+#[derive(Clone, Copy)]
 pub enum CallAnswer {
     WrongLength,
     OutOfRange,

@@ -17,7 +17,7 @@ use session_answers::CallAnswer;
 use session_state::Told;
 
 // Whether a call may go on with the buffers that it was lent, or what it answers at once.
-#[derive(Drop)]
+#[derive(Clone, Copy)]
 enum Ready {
     Right,
     Refused(CallAnswer),

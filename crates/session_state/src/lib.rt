@@ -16,14 +16,14 @@ use machine_run::Watch;
 use session_answers::CallAnswer;
 
 // The session's header: the cycles finished and the watch. Its values in hand stand in the panel alone, where the machine reads them.
-#[derive(Drop)]
+#[derive(Clone, Copy)]
 pub struct Session {
     pub finished: Cycle,
     pub watch: Watch,
 }
 
 // What a command answers, and the new session.
-#[derive(Drop)]
+#[derive(Clone, Copy)]
 pub struct Told {
     pub session: Session,
     pub answer: CallAnswer,

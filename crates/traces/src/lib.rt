@@ -18,7 +18,7 @@ const BLOCK_BYTES: usize = 16;
 const MOST_CYCLES: u32 = 64;
 
 // What a call answers: done, or refused by 40, 52 or 42.
-#[derive(Drop)]
+#[derive(Clone, Copy)]
 pub enum TurnAnswer {
     Done,
     WrongLength,

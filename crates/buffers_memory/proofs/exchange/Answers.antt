@@ -1,0 +1,8 @@
+-- One swap of the local halves and one of the switch halves make the alternated memory at the location (`exchanged`).
+use Rattle.buffers_memory.proofs.Halves.{exchanged}
+use native.Mathlib.Omega.{arith}
+use Rattle.buffers_memory.proofs.exchange.Goals as goal
+
+pub returns : goal.returns
+returns c =
+    exchanged c.args.processor c.args.location c.requires.1 c.requires.2 c.args.memory.now c.requires.0 _ _ _ _ (omega arith) (omega arith) (omega arith) (omega arith) _ _ c.swap.ensures c.swap-2.ensures
