@@ -5,6 +5,11 @@
 ghost use Rattle.std.specs.Prelude.{◌≤◌, length};
 ghost use Rattle.file_reading.specs.Got.{Brought};
 
+use std::fs::File;
+use std::os::unix::fs::FileExt;
+use std::rt::Files;
+use std::{io, str};
+
 // What one read brought: a number of bytes, 0 at the end of the file; or it failed.
 #[derive(Drop)]
 enum Got {
@@ -13,24 +18,23 @@ enum Got {
 }
 
 // One read at a place of the file, which a pipe or a terminal does not have: it fails there, and does not wait.
-fn read_at(fd: i32, part: &mut [u8], at: i64) -> Got
+fn read_at(file: &File, part: &mut [u8], at: u64) -> Got
     ensures { Brought result part.new }
 {
-    let got = libc::pread(fd, part, at);
-    if got < 0 {
-        return Got::Failed;
+    match file.read_at(part, at) {
+        Ok(count) => Got::Bytes(count),
+        Err(_) => Got::Failed,
     }
-    Got::Bytes(io::count(got, part))
 }
 
 // Reads an open file into the buffer; answers the number of bytes read. A read that fails is not the end of the file: the file then
 // counts as absent.
-fn read_whole(fd: i32, bytes: &mut [u8]) -> usize
+fn read_whole(file: &File, bytes: &mut [u8]) -> usize
     ensures { result ≤ length bytes.new }
 {
     let mut done: usize = 0;
     while done < bytes.len() {
-        let Got::Bytes(more) = read_at(fd, &mut bytes[done..], done as i64) else {
+        let Got::Bytes(more) = read_at(file, &mut bytes[done..], done as u64) else {
             return 0;
         };
         if more == 0 {
@@ -42,23 +46,23 @@ fn read_whole(fd: i32, bytes: &mut [u8]) -> usize
 }
 
 // Opens a file to read it. Opened for update first, a pipe without a writer does not keep the program waiting.
-fn open_file(name: &[u8]) -> i32 {
-    let fd = os::open_update(name);
-    if fd < 0 {
-        return os::open_read(name);
+fn open_file(rt: &impl Files<File = File>, name: &str) -> io::Result<File> {
+    match File::options().read(true).write(true).open(rt, name) {
+        Ok(file) => Ok(file),
+        Err(_) => File::open(rt, name),
     }
-    fd
 }
 
-// Reads a file into the buffer, as far as it holds it; answers the number of bytes read, 0 where the file is absent.
-pub fn read_file(name: &[u8], bytes: &mut [u8]) -> usize
+// Reads a file into the buffer, as far as it holds it; answers the number of bytes read, 0 where the file is absent. A name that is no
+// text names no file that can be opened.
+pub fn read_file(rt: &impl Files<File = File>, name: &[u8], bytes: &mut [u8]) -> usize
     ensures { result ≤ length bytes.new }
 {
-    let fd = open_file(name);
-    if fd < 0 {
+    let Ok(path) = str::from_utf8(name) else {
         return 0;
-    }
-    let count = read_whole(fd, bytes);
-    libc::close(fd);
-    count
+    };
+    let Ok(file) = open_file(rt, path) else {
+        return 0;
+    };
+    read_whole(&file, bytes)
 }
