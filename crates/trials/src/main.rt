@@ -1,11 +1,12 @@
 // Runs the trials that are executed and prints a line for each, in six-column fields.
 
+#![tactic(auto)]
+
 ghost use Rattle.std.specs.Prelude.{◌≤◌, length};
 ghost use Rattle.gates.specs.Value.{Code};
 
 use fields::Field;
 use gates::Gate;
-use libc::STDOUT_FILENO;
 
 // Values, functions and translations by name.
 const U: u8 = 2;
@@ -26,17 +27,17 @@ const SAME: u8 = 4;
 
 const INVERT: u8 = 5;
 
-// Prints a line of at most 21 numbers, which 128 bytes hold.
-fn print_line(numbers: &[u16])
+// Prints a line of at most 21 numbers, which 128 bytes hold. A line that can not be written is left out.
+fn print_line(rt: &impl Print, numbers: &[u16])
     requires { length numbers.now ≤ 21 }
 {
     let mut line = [0u8; 128];
     let end = writing::write_line(&mut line, 0, numbers);
-    io::write_all(STDOUT_FILENO, &line[..end]);
+    let _ = rt.write_all(&line[..end]);
 }
 
 // A gate that takes its operands as they are: prints f, g5, the operands and the value.
-fn gate_trial(f: u8, g5: u8, a: u8, b: u8, c: u8, d: u8)
+fn gate_trial(rt: &impl Print, f: u8, g5: u8, a: u8, b: u8, c: u8, d: u8)
     requires { (f ≤ 4) × (g5 ≤ 6) × Code a × Code b × Code c × Code d }
 {
     let functions = gates::functions();
@@ -50,52 +51,55 @@ fn gate_trial(f: u8, g5: u8, a: u8, b: u8, c: u8, d: u8)
         g5,
     };
     let value = gate.value(&functions, &translations, a, b, c, d);
-    print_line(&[
-        f as u16,
-        g5 as u16,
-        a as u16,
-        b as u16,
-        c as u16,
-        d as u16,
-        value as u16,
-    ]);
+    print_line(
+        rt,
+        &[
+            f as u16,
+            g5 as u16,
+            a as u16,
+            b as u16,
+            c as u16,
+            d as u16,
+            value as u16,
+        ],
+    );
 }
 
 // Prints the trial's number, and 1 if the text is a right field, else 0.
-fn field_trial(trial: u16, text: &[u8]) {
+fn field_trial(rt: &impl Print, trial: u16, text: &[u8]) {
     let right = match fields::read_field(text, 0) {
         Field::Number(_, _) => 1,
         Field::Misformed => 0,
     };
-    print_line(&[trial, right]);
+    print_line(rt, &[trial, right]);
 }
 
-fn gate_trials() {
-    gate_trial(AND, SAME, 1, 1, 1, 1);
-    gate_trial(AND, SAME, 1, Z, 1, 1);
-    gate_trial(AND, SAME, U, 0, 1, 1);
-    gate_trial(IDENTITY, INVERT, Z, 0, 0, 0);
-    gate_trial(XOR, SAME, 1, 1, 1, 0);
-    gate_trial(XOR, SAME, 1, Z, 0, 0);
-    gate_trial(SELECT, SAME, U, 1, 1, 0);
-    gate_trial(SELECT, SAME, U, Z, Z, 0);
-    gate_trial(MAJORITY, SAME, 1, U, 1, 0);
+fn gate_trials(rt: &impl Print) {
+    gate_trial(rt, AND, SAME, 1, 1, 1, 1);
+    gate_trial(rt, AND, SAME, 1, Z, 1, 1);
+    gate_trial(rt, AND, SAME, U, 0, 1, 1);
+    gate_trial(rt, IDENTITY, INVERT, Z, 0, 0, 0);
+    gate_trial(rt, XOR, SAME, 1, 1, 1, 0);
+    gate_trial(rt, XOR, SAME, 1, Z, 0, 0);
+    gate_trial(rt, SELECT, SAME, U, 1, 1, 0);
+    gate_trial(rt, SELECT, SAME, U, Z, Z, 0);
+    gate_trial(rt, MAJORITY, SAME, 1, U, 1, 0);
 }
 
-fn field_trials() {
-    field_trial(1, b"     0");
-    field_trial(2, b" 65535");
-    field_trial(3, b" 65536");
-    field_trial(4, b"     7");
-    field_trial(5, b"    07");
-    field_trial(6, b"    +7");
-    field_trial(7, b"     -");
-    field_trial(8, b"7     ");
-    field_trial(9, b"      ");
-    field_trial(10, b"    7");
+fn field_trials(rt: &impl Print) {
+    field_trial(rt, 1, b"     0");
+    field_trial(rt, 2, b" 65535");
+    field_trial(rt, 3, b" 65536");
+    field_trial(rt, 4, b"     7");
+    field_trial(rt, 5, b"    07");
+    field_trial(rt, 6, b"    +7");
+    field_trial(rt, 7, b"     -");
+    field_trial(rt, 8, b"7     ");
+    field_trial(rt, 9, b"      ");
+    field_trial(rt, 10, b"    7");
 }
 
-fn main() {
-    gate_trials();
-    field_trials();
+fn main(rt: HostRuntime) {
+    gate_trials(&rt);
+    field_trials(&rt);
 }
