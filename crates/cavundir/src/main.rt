@@ -1,6 +1,8 @@
 // The listing program: it reads NET, MOD and STIM in the working folder and prints the listing, or the first refusal (01, Listing,
 // Refusals). Nothing else is printed.
 
+#![tactic(auto)]
+
 ghost use Rattle.std.specs.Prelude.{◌≡◌, false, ◌≤◌, length, take};
 ghost use Rattle.model.specs.Refusal.{pass};
 ghost use Rattle.model.specs.Files.{files_of};
@@ -12,6 +14,8 @@ use file_checks::FileAnswer;
 use file_mod_lines::ModAnswer;
 use file_net::NetAnswer;
 use file_stim::StimAnswer;
+use std::fs::File;
+use std::rt::Files;
 
 // The buffers. A file is read up to one byte more than it may have: such a byte is surplus, whatever follows it.
 fn net_buffer() -> [u8; 299082] {
@@ -36,6 +40,7 @@ struct Read {
 
 // The refusal of what was read.
 fn refuse(
+    rt: &impl Print,
     net: &[u8],
     modfile: &[u8],
     stim: &[u8],
@@ -53,6 +58,7 @@ fn refuse(
     ensures handed { Handing (files_of (take result.net net.now) (take result.modfile modfile.now) (take result.stim stim.now)) parts.new failed.new }
 {
     listing_print::print_refusal(
+        rt,
         &net[..read.net],
         &modfile[..read.modfile],
         &stim[..read.stim],
@@ -65,6 +71,7 @@ fn refuse(
 
 // "Order: NET, MOD, STIM": each is checked before the next is read.
 fn run(
+    rt: &(impl Files<File = File> + Print),
     net: &mut [u8],
     modfile: &mut [u8],
     stim: &mut [u8],
@@ -75,7 +82,7 @@ fn run(
     requires failed_value { failed.old ≡ false }
     ensures handed { Handing (files_of (take result.net net.new) (take result.modfile modfile.new) (take result.stim stim.new)) parts.new failed.new }
 {
-    let n = file_reading::read_file(b"NET", net);
+    let n = file_reading::read_file(rt, b"NET", net);
     let first = file_net::check_net(&net[..n], 4096);
     let NetAnswer::Accepted(_) = first else {
         let answer = file_checks::net_answer(first);
@@ -84,9 +91,9 @@ fn run(
             modfile: 0,
             stim: 0,
         };
-        return refuse(net, modfile, stim, read, answer, parts, failed);
+        return refuse(rt, net, modfile, stim, read, answer, parts, failed);
     };
-    let m = file_reading::read_file(b"MOD", modfile);
+    let m = file_reading::read_file(rt, b"MOD", modfile);
     let second = file_mod::check_mod(&net[..n], &modfile[..m]);
     let ModAnswer::Accepted(_, _) = second else {
         let answer = file_checks::mod_answer(second);
@@ -95,9 +102,9 @@ fn run(
             modfile: m,
             stim: 0,
         };
-        return refuse(net, modfile, stim, read, answer, parts, failed);
+        return refuse(rt, net, modfile, stim, read, answer, parts, failed);
     };
-    let k = file_reading::read_file(b"STIM", stim);
+    let k = file_reading::read_file(rt, b"STIM", stim);
     let third = file_stim::check_stim(&net[..n], &stim[..k]);
     let StimAnswer::Accepted(lines) = third else {
         let answer = file_checks::stim_answer(third);
@@ -106,9 +113,17 @@ fn run(
             modfile: m,
             stim: k,
         };
-        return refuse(net, modfile, stim, read, answer, parts, failed);
+        return refuse(rt, net, modfile, stim, read, answer, parts, failed);
     };
-    listing_print::print_listing(&net[..n], &modfile[..m], &stim[..k], lines, parts, failed);
+    listing_print::print_listing(
+        rt,
+        &net[..n],
+        &modfile[..m],
+        &stim[..k],
+        lines,
+        parts,
+        failed,
+    );
     Read {
         net: n,
         modfile: m,
@@ -116,11 +131,18 @@ fn run(
     }
 }
 
-fn main() {
+fn main(rt: HostRuntime) {
     let mut net = net_buffer();
     let mut modfile = mod_buffer();
     let mut stim = stim_buffer();
     let mut parts: u32 = 0;
     let mut failed = false;
-    run(&mut net, &mut modfile, &mut stim, &mut parts, &mut failed);
+    run(
+        &rt,
+        &mut net,
+        &mut modfile,
+        &mut stim,
+        &mut parts,
+        &mut failed,
+    );
 }

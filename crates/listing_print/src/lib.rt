@@ -1,5 +1,7 @@
 // What the program prints, handed part by part to one writer: the one line of a refusal, or the listing (01, Listing, Refusals).
 
+#![tactic(auto)]
+
 ghost use Rattle.std.specs.Prelude.{◌≡◌, false, ◌<◌};
 ghost use Rattle.model.specs.Refusal.{pass};
 ghost use Rattle.model.specs.Files.{files_of};
@@ -12,7 +14,6 @@ use buffers_memory::MEMORY_BYTES;
 use buffers_tables::{PANEL_BYTES, PROGRAM_BYTES};
 use clock::Cycle;
 use file_checks::FileAnswer;
-use libc::STDOUT_FILENO;
 
 fn panel_buffer() -> [u8; PANEL_BYTES] {
     [0; PANEL_BYTES]
@@ -32,21 +33,29 @@ fn piece_buffer() -> [u8; 77824] {
 
 // The one writer. It is lent the bytes read of each file and takes the next part of what is printed for them, no other; it counts a
 // part that was written and tells one that could not be. It counts behind a reference, since a number could be handed over twice.
-fn put(net: &[u8], modfile: &[u8], stim: &[u8], part: &[u8], parts: &mut u32, failed: &mut bool)
+fn put(
+    rt: &impl Print,
+    net: &[u8],
+    modfile: &[u8],
+    stim: &[u8],
+    part: &[u8],
+    parts: &mut u32,
+    failed: &mut bool,
+)
     requires part_value { part.now ≡ part_at (files_of net.now modfile.now stim.now) parts.old }
     requires parts_bound { parts.old < part_count (files_of net.now modfile.now stim.now) }
     requires failed_value { failed.old ≡ false }
     ensures counted { parts.new ≡ parts_after parts.old failed.new }
 {
-    if io::write_all(STDOUT_FILENO, part) {
-        *parts += 1;
-    } else {
-        *failed = true;
+    match rt.write_all(part) {
+        Ok(()) => *parts += 1,
+        Err(_) => *failed = true,
     }
 }
 
 // "prints one line of two fields, number and returned value".
 pub fn print_refusal(
+    rt: &impl Print,
     net: &[u8],
     modfile: &[u8],
     stim: &[u8],
@@ -62,11 +71,12 @@ pub fn print_refusal(
 {
     let mut line = [0u8; 13];
     let length = file_checks::write_refusal(answer, &mut line);
-    put(net, modfile, stim, &line[..length], parts, failed);
+    put(rt, net, modfile, stim, &line[..length], parts, failed);
 }
 
 // The listing, piece by piece, until one can not be written. The tables of the gates are made once and lent to every step.
 pub fn print_listing(
+    rt: &impl Print,
     net: &[u8],
     modfile: &[u8],
     stim: &[u8],
@@ -110,7 +120,7 @@ pub fn print_listing(
             &mut shown,
             &mut piece,
         );
-        put(net, modfile, stim, &piece[..next.length], parts, failed);
+        put(rt, net, modfile, stim, &piece[..next.length], parts, failed);
         if *failed {
             return;
         }
