@@ -5,10 +5,6 @@ use mathlib.Core.Path.{◌≡◌, refl, sym, ◌∙◌, ap}
 use mathlib.Core.Bool.{Bool, false}
 use mathlib.Core.List.{List, ◌++◌}
 use native.Mathlib.Omega.{arith}
-use lib.ListN.{take}
-use contract.Lifetimes.{Lfts}
-use denote.Triple.Clauses.{AtExit}
-use borrow.Fn.Kinds.{Dens, res_t, ended_of}
 use Rattle.model.specs.Refusal.{Check, pass, fail}
 use Rattle.model.specs.Files.{Files, files_of}
 use Rattle.model.specs.Netlist.{network, net_check}
@@ -19,10 +15,8 @@ use Rattle.model.proofs.Refusals.{first_stays, first_second}
 use Rattle.model.proofs.Demands.{joined_same}
 use Rattle.laws_listing.specs.Reading.{first_bytes}
 use Rattle.listing_print.specs.Handing.{part_for, part_at, count_for, part_count, Handing}
-use Rattle.cavundir.specs.Output.{ReadFrom}
+use Rattle.cavundir.specs.Output.{ReadFrom, Prints}
 use Rattle.cavundir.proofs.Handed.{handed_printed, handed_begins}
-use Rattle.cavundir.proofs.run.Kinds.{ps as run-ps, r as run-r}
-use Rattle.cavundir.proofs.run.Reads.{Learnt as RunTells}
 
 -- two readings of files with the same parts
 abbrev SameParts : Files → Files → Type 0
@@ -77,20 +71,11 @@ module _ {files read : Files} (from : ReadFrom files read) where
       let e = same_parts.0 in
       record { few = omega (arith, e, h.few); whole = λ q. h.whole q ∙ e; cut = λ q. omega (arith, e, h.cut q) }
 
--- What `run` itself tells its caller, the buffers and the numbers being as it leaves them: the parts that it counts are what is printed
--- for the files that it read, and where a write failed they are the beginning
-module _ (κs : Lfts 5) (a : Dens κs run-ps) (r : (res_t run-r κs).Denot) (left : AtExit (ended_of 5 run-ps run-r) κs) (told : RunTells κs a r left) where
-  abbrev bytes_read : Files
-  bytes_read = files_of (take r.net left.0.now) (take r.modfile left.1.0.now) (take r.stim left.1.1.0.now)
-
-  abbrev parts_written : List ℕ
-  parts_written = joined left.1.1.1.0.now (part_at bytes_read)
-
-  module _ (files : Files) (from : ReadFrom files bytes_read) where
-    pub run_prints : left.1.1.1.1.0.now ≡ false → parts_written ≡ printed panel_limit files
-    run_prints unfailed = read_joined from _ ∙ handed_printed files (read_handing from told) unfailed
-
-    pub run_begins : (rest : List ℕ) × (parts_written ++ rest ≡ printed panel_limit files)
-    run_begins =
-        let all = handed_begins files (read_handing from told) in
-        (all.0, ap (λ (x : List ℕ). x ++ all.0) (read_joined from _) ∙ all.1)
+-- The parts that the writer was handed for the bytes read are what is printed for the files, and where a write failed they are the beginning
+pub handed_prints : {read : Files} {parts : ℕ} {failed : Bool} → Handing read parts failed → Prints read parts failed
+handed_prints told = record {
+  all = λ files from unfailed. read_joined from _ ∙ handed_printed files (read_handing from told) unfailed;
+  beginning = λ files from.
+      let all = handed_begins files (read_handing from told) in
+      (all.0, ap (λ (x : List ℕ). x ++ all.0) (read_joined from _) ∙ all.1);
+}

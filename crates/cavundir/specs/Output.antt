@@ -1,11 +1,11 @@
 -- What the program reads of whole files, and what it writes for them.
-use Rattle.std.specs.Prelude.{ℕ, ◌≡◌, false, List}
+use Rattle.std.specs.Prelude.{ℕ, ◌≡◌, Bool, false, List, ◌++◌}
 use Rattle.model.specs.Refusal.{pass}
 use Rattle.model.specs.Files.{Files}
 use Rattle.model.specs.Netlist.{net_check}
 use Rattle.model.specs.ModuleFile.{mod_check}
 use Rattle.model.specs.Acceptance.{panel_limit, network_of}
-use Rattle.model.specs.Listing.{joined}
+use Rattle.model.specs.Listing.{joined, printed}
 use Rattle.laws_listing.specs.Reading.{first_bytes}
 use Rattle.listing_print.specs.Handing.{part_at, Handing}
 
@@ -20,3 +20,9 @@ pub record Output (files : Files) (text : List ℕ) : Type 0 where
   pub parts : ℕ
   pub handing : Handing (first_bytes files) parts false
   pub is : text ≡ joined parts (part_at (first_bytes files))
+
+-- What the parts written for the bytes read are, for any whole files of which those are what is read: all that is printed for the files
+-- where no write failed, and its beginning where one did
+pub record Prints (read : Files) (parts : ℕ) (failed : Bool) : Type 0 where
+  pub all : (files : Files) → ReadFrom files read → failed ≡ false → joined parts (part_at read) ≡ printed panel_limit files
+  pub beginning : (files : Files) → ReadFrom files read → (rest : List ℕ) × (joined parts (part_at read) ++ rest ≡ printed panel_limit files)
