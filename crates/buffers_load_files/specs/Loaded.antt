@@ -2,7 +2,7 @@
 -- accepted, with 0 cycles finished and STIM's time 0 values"). `time_zero`, `panel_of`, `program_of` and `opening_bytes` are over the files; their
 -- inner definitions, with `From` or `With` in the name, are over the bytes that a function of loading is lent.
 use Rattle.std.specs.Prelude.{ℕ, zero, suc, ◌*◌, ◌/◌, ◌%◌, List, eqb, leb, get_or}
-use Rattle.logic.specs.Choice.{if◌then◌else◌}
+use Rattle.std.specs.Prelude.{if◌then◌else◌}
 use Rattle.logic.specs.Listed.{listed}
 use Rattle.model.specs.Files.{Files}
 use Rattle.model.specs.Network.{is_signal}

@@ -1,6 +1,6 @@
 -- What a byte of the opening memory is, by the signals' time 0 values. They mirror private functions: `opening_bytes` is what a caller reads.
 use Rattle.std.specs.Prelude.{ℕ, List}
-use Rattle.logic.specs.Choice.{if◌then◌else◌}
+use Rattle.std.specs.Prelude.{if◌then◌else◌}
 use Rattle.logic.specs.Listed.{listed}
 use Rattle.model.specs.Value.{value_of}
 use Rattle.model.specs.Module.{Module, received, sent_signal}

@@ -9,7 +9,7 @@ use native.Mathlib.Nat.{div-lt_iff_lt-mul, mod-lt}
 use lib.Dec.{leb}
 use lib.ListN.{get_or}
 use borrow.Author.Tests.{le-leb, lt-leb, leb-true}
-use Rattle.logic.specs.Choice.{if◌then◌else◌}
+use Rattle.std.specs.Prelude.{if◌then◌else◌}
 use Rattle.logic.specs.Listed.{listed}
 use Rattle.gates.specs.Function.{is_function}
 use Rattle.gates.specs.Translation.{is_translation}

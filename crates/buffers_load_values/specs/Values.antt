@@ -2,7 +2,7 @@
 -- `time_zero_from` is what a caller reads.
 use Rattle.std.specs.Prelude.{ℕ, List, leb}
 use Rattle.logic.specs.Test.{◌and◌}
-use Rattle.logic.specs.Choice.{if◌then◌else◌}
+use Rattle.std.specs.Prelude.{if◌then◌else◌}
 use Rattle.gates.specs.Value.{U}
 use Rattle.model.specs.Network.{is_signal}
 use Rattle.model.specs.Netlist.{network}

@@ -2,7 +2,7 @@
 -- machine), 256 locations each, and then 256 zeros, which an operand that is none reads.
 use Rattle.std.specs.Prelude.{ℕ, ◌+◌, ◌*◌, ◌/◌, ◌%◌, ◌<◌, ◌≡◌, Bool, List, eqb, ltb, length, get_or}
 use Rattle.logic.specs.Test.{◌and◌}
-use Rattle.logic.specs.Choice.{if◌then◌else◌}
+use Rattle.std.specs.Prelude.{if◌then◌else◌}
 use Rattle.logic.specs.Listed.{listed}
 use Rattle.gates.specs.Value.{Code}
 use Rattle.model.specs.Module.{local_earlier, local_present, switch_earlier, switch_present}

@@ -10,7 +10,7 @@ use lib.ListN.{length, get_or}
 use borrow.Author.Tests.{leb-true, le-leb, le-ltb}
 use Rattle.logic.specs.Test.{◌and◌}
 use Rattle.logic.proofs.Tests.{and_true, and_left, and_right, all_at, all_true}
-use Rattle.logic.specs.Choice.{if◌then◌else◌}
+use Rattle.std.specs.Prelude.{if◌then◌else◌}
 use Rattle.gates.specs.Value.{Code}
 use Rattle.model.specs.Module.{At}
 use Rattle.buffers_memory.specs.Memory.{memory_length, blank, place, byte_processor, byte_part, byte_location, within, MemoryBytes}

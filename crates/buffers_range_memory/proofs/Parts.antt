@@ -9,7 +9,7 @@ use lib.ListN.{get_or}
 use borrow.Author.Tests.{ltb-true, ltb-false, lt-ltb, le-ltb, leb-true, le-leb}
 use Rattle.logic.specs.Test.{◌and◌}
 use Rattle.logic.proofs.Tests.{and_true, and_left, and_right, all_at, all_true}
-use Rattle.logic.specs.Choice.{if◌then◌else◌}
+use Rattle.std.specs.Prelude.{if◌then◌else◌}
 use Rattle.buffers_memory.specs.Memory.{memory_length, part_stride, processor_parts, memory_parts, blank, byte_processor, byte_part, byte_location, within}
 use Rattle.buffers_tables.specs.Panel.{processors_in, slots_in}
 use Rattle.buffers_range_memory.specs.Ranges.{memory_ranged}

@@ -1,7 +1,7 @@
 -- The order in which the code judges the memory, part by part: it mirrors private functions, and `memory_ranged` is what a caller reads.
 use Rattle.std.specs.Prelude.{ℕ, ◌+◌, ◌-◌, ◌*◌, ◌/◌, ◌%◌, Bool, List, leb, ltb, get_or}
 use Rattle.logic.specs.Test.{◌and◌, all}
-use Rattle.logic.specs.Choice.{if◌then◌else◌}
+use Rattle.std.specs.Prelude.{if◌then◌else◌}
 use Rattle.buffers_memory.specs.Memory.{part_stride, processor_parts, memory_parts, blank}
 use Rattle.buffers_runs.specs.Zeros.{zeros}
 

@@ -1,7 +1,7 @@
 -- 44 (01, Refusals), of the memory. Bytes that are not in use are 0.
 use Rattle.std.specs.Prelude.{ℕ, Bool, List, leb, ltb, get_or}
 use Rattle.logic.specs.Test.{◌and◌, all}
-use Rattle.logic.specs.Choice.{if◌then◌else◌}
+use Rattle.std.specs.Prelude.{if◌then◌else◌}
 use Rattle.buffers_memory.specs.Memory.{memory_length, blank, byte_processor, byte_part, byte_location, within}
 use Rattle.buffers_tables.specs.Panel.{processors_in, slots_in}
 

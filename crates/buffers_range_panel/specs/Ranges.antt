@@ -1,7 +1,7 @@
 -- 44 (01, Refusals), of the panel. Numbers that are not in use are 0.
 use Rattle.std.specs.Prelude.{ℕ, ◌+◌, ◌-◌, ◌*◌, Bool, List, eqb, leb, ltb, get_or}
 use Rattle.logic.specs.Test.{◌and◌, all}
-use Rattle.logic.specs.Choice.{if◌then◌else◌}
+use Rattle.std.specs.Prelude.{if◌then◌else◌}
 use Rattle.gates.specs.Translation.{is_translation}
 use Rattle.gates.specs.Function.{is_function}
 use Rattle.model.specs.Network.{input, rank_order}

@@ -7,7 +7,7 @@ use lib.Dec.{eqb, leb, ltb}
 use borrow.Author.Tests.{eqb-true, eqb-false, leb-true, leb-false, eq-eqb, ne_eqb, lt-ltb, le-ltb, le-leb, lt-leb}
 use Rattle.logic.specs.Test.{◌and◌, one}
 use Rattle.logic.proofs.Tests.{and_true, and_left, and_right}
-use Rattle.logic.specs.Choice.{if◌then◌else◌}
+use Rattle.std.specs.Prelude.{if◌then◌else◌}
 use Rattle.buffers_range_program.specs.Order.{pair_ranged}
 use Rattle.logic.proofs.Judged.{same_test, yes}
 

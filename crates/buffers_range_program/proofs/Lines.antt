@@ -6,7 +6,7 @@ use mathlib.Core.List.{List}
 use native.Mathlib.Omega.{arith}
 use lib.Dec.{eqb, leb, ltb}
 use Rattle.logic.specs.Test.{◌and◌, ◌or◌, all}
-use Rattle.logic.specs.Choice.{if◌then◌else◌}
+use Rattle.std.specs.Prelude.{if◌then◌else◌}
 use Rattle.model.specs.Module.{switch_present}
 use Rattle.model.specs.ModuleFile.{location_layout, operand_layout, send_layout, sender_layout}
 use Rattle.buffers_tables.specs.Panel.{signals_in, processors_in, slots_in}

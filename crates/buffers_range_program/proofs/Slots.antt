@@ -9,7 +9,7 @@ use lib.Dec.{ltb}
 use lib.ListN.{get_or}
 use borrow.Author.Tests.{ltb-true, ltb-false}
 use Rattle.logic.proofs.Tests.{and_true, and_left, and_right, all_at, all_true}
-use Rattle.logic.specs.Choice.{if◌then◌else◌}
+use Rattle.std.specs.Prelude.{if◌then◌else◌}
 use Rattle.buffers_memory.specs.Memory.{within}
 use Rattle.buffers_memory.proofs.Within.{is_within, within_true, within_false, no_processor, no_location}
 use Rattle.buffers_tables.specs.Panel.{signals_in, processors_in, slots_in}

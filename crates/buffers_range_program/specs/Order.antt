@@ -1,7 +1,7 @@
 -- The order in which the code judges the program, run by run: it mirrors private functions, and `program_ranged` is what a caller reads.
 use Rattle.std.specs.Prelude.{ℕ, ◌+◌, ◌-◌, ◌*◌, Bool, List, eqb, leb, ltb, get_or}
 use Rattle.logic.specs.Test.{◌and◌, all}
-use Rattle.logic.specs.Choice.{if◌then◌else◌}
+use Rattle.std.specs.Prelude.{if◌then◌else◌}
 use Rattle.words.specs.Word.{word}
 use Rattle.model.specs.Module.{local_present, switch_present, no_part}
 use Rattle.instruction.specs.Sender.{sender_laid}

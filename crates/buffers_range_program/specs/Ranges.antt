@@ -1,7 +1,7 @@
 -- 44 (01, Refusals), of the program. Numbers that are not in use are 0.
 use Rattle.std.specs.Prelude.{ℕ, ◌*◌, ◌/◌, ◌%◌, Bool, List, leb}
 use Rattle.logic.specs.Test.{◌and◌, all}
-use Rattle.logic.specs.Choice.{if◌then◌else◌}
+use Rattle.std.specs.Prelude.{if◌then◌else◌}
 use Rattle.model.specs.Network.{Network}
 use Rattle.model.specs.Module.{Module}
 use Rattle.model.specs.ModuleFile.{operand_layout, send_layout, sender_layout}

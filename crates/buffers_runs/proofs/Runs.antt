@@ -10,7 +10,7 @@ use lib.ListN.{get_or}
 use borrow.Author.Tests.{ltb-true, ltb-false, leb-true, le-leb, eqb-true, eq-eqb}
 use Rattle.logic.specs.Test.{◌and◌, all}
 use Rattle.logic.proofs.Tests.{all_at, all_true}
-use Rattle.logic.specs.Choice.{if◌then◌else◌}
+use Rattle.std.specs.Prelude.{if◌then◌else◌}
 use Rattle.gates.specs.Translation.{is_translation}
 use Rattle.buffers_runs.specs.Zeros.{zeros}
 use Rattle.buffers_runs.specs.Largest.{larger, largest_of}

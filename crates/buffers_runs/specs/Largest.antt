@@ -1,6 +1,6 @@
 -- The largest byte of a run: one number tells whether the whole run is 0, or in a range that has an upper end alone.
 use Rattle.std.specs.Prelude.{ℕ, zero, suc, ◌+◌, List, ltb, get_or}
-use Rattle.logic.specs.Choice.{if◌then◌else◌}
+use Rattle.std.specs.Prelude.{if◌then◌else◌}
 
 unfoldable pub larger : ℕ → ℕ → ℕ
 larger a b = if ltb a b then b else a

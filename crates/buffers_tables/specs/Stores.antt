@@ -1,7 +1,7 @@
 -- The panel with a number of the session or of a signal written into it; all other bytes stay.
 use Rattle.std.specs.Prelude.{ℕ, Bool, List, eqb, leb, get_or, set}
 use Rattle.logic.specs.Test.{◌and◌}
-use Rattle.logic.specs.Choice.{if◌then◌else◌}
+use Rattle.std.specs.Prelude.{if◌then◌else◌}
 use Rattle.logic.specs.Listed.{listed}
 use Rattle.words.specs.Stored.{word_stored}
 use Rattle.buffers_tables.specs.Panel.{panel_length, panel_stride, finished_place, watched_place, mask_place, hand_column, signal_byte, signal_of, column_of}

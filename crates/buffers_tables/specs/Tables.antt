@@ -1,6 +1,6 @@
 -- What the panel and the program hold: a network and a module (01), for any bytes.
 use Rattle.std.specs.Prelude.{ℕ, ◌≤◌, ◌≡◌, List, leb, length}
-use Rattle.logic.specs.Choice.{if◌then◌else◌}
+use Rattle.std.specs.Prelude.{if◌then◌else◌}
 use Rattle.gates.specs.Value.{Code}
 use Rattle.gates.specs.Gate.{gate}
 use Rattle.gates.specs.Legal.{Legal}

@@ -1,6 +1,6 @@
 -- A chart page (02, ticket 1): how large it is, and what it shows. Its signals and its cycles are counted from 0.
 use Rattle.std.specs.Prelude.{ℕ, ◌+◌, ◌-◌, ◌*◌, List, eqb, get_or}
-use Rattle.logic.specs.Choice.{if◌then◌else◌}
+use Rattle.std.specs.Prelude.{if◌then◌else◌}
 use Rattle.fields.specs.Field.{digit0}
 use Rattle.words.specs.Word.{word}
 

@@ -8,7 +8,7 @@ use lib.Dec.{eqb, ltb}
 use lib.ListN.{length, get_or, get_or-eq_default}
 use borrow.Author.Tests.{ltb-true, ltb-false, eqb-true}
 use Rattle.logic.specs.Test.{◌and◌, all}
-use Rattle.logic.specs.Choice.{if◌then◌else◌}
+use Rattle.std.specs.Prelude.{if◌then◌else◌}
 use Rattle.logic.proofs.Tests.{all_more, all_fails}
 use Rattle.fields.specs.Field.{is_field_at, number_at}
 use Rattle.fields.specs.Line.{newline, is_line_at, line_length}

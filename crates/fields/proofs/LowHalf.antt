@@ -8,7 +8,7 @@ use lib.Dec.{eqb, leb}
 use lib.ListN.{length}
 use borrow.Author.Tests.{eqb-true, leb-true, leb-false}
 use Rattle.logic.specs.Test.{every}
-use Rattle.logic.specs.Choice.{if◌then◌else◌}
+use Rattle.std.specs.Prelude.{if◌then◌else◌}
 use Rattle.logic.proofs.Tests.{and_left, and_right}
 use Rattle.fields.specs.Field.{is_digit, after_spaces, decimal, is_numeral, is_field_at, number, number_at}
 use Rattle.fields.specs.Scan.{low_number}

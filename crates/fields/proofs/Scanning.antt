@@ -7,7 +7,7 @@ use native.Mathlib.Omega.{arith}
 use lib.Dec.{eqb, leb}
 use borrow.Author.Tests.{eqb-false, leb-true, ne_eqb, le-leb, not-true}
 use Rattle.logic.specs.Test.{◌and◌, every}
-use Rattle.logic.specs.Choice.{if◌then◌else◌}
+use Rattle.std.specs.Prelude.{if◌then◌else◌}
 use Rattle.logic.proofs.Tests.{and_left, and_right, and_true}
 use Rattle.fields.specs.Field.{is_digit, after_spaces, decimal, no_leading_zero, is_numeral, number}
 use Rattle.fields.specs.Scan.{extended, scan, scans}

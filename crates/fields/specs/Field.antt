@@ -1,7 +1,7 @@
 -- A field (01, Files): "six columns, each a decimal number from 0 to 65535, right-justified, spaces before it, no leading zeros".
 use Rattle.std.specs.Prelude.{ℕ, ◌+◌, ◌-◌, ◌*◌, Bool, true, false, not, List, [], ◌∷◌, eqb, leb, length, take, drop}
 use Rattle.logic.specs.Test.{◌and◌, every}
-use Rattle.logic.specs.Choice.{if◌then◌else◌}
+use Rattle.std.specs.Prelude.{if◌then◌else◌}
 
 -- the byte of a space, of the digit 0 and of the digit 9
 abbrev pub space : ℕ

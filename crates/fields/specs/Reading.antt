@@ -1,6 +1,6 @@
 -- The answers of reading a field and a line at a place of a file.
 use Rattle.std.specs.Prelude.{ℕ, ◌+◌, List}
-use Rattle.logic.specs.Choice.{if◌then◌else◌}
+use Rattle.std.specs.Prelude.{if◌then◌else◌}
 use Rattle.fields.specs.Field.{is_field_at, number_at}
 use Rattle.fields.specs.Line.{is_line_at, line_length}
 use Rattle.fields.specs.declared.Field.{Field}

@@ -1,7 +1,7 @@
 -- How the code reads a field, column by column, and a field's number by low halves: it mirrors private functions and need not be
 -- believed. `read_field` and `number_at` are what a caller reads.
 use Rattle.std.specs.Prelude.{ℕ, ◌+◌, ◌-◌, ◌*◌, ◌%◌, List, [], ◌∷◌, eqb, leb, get_or}
-use Rattle.logic.specs.Choice.{if◌then◌else◌}
+use Rattle.std.specs.Prelude.{if◌then◌else◌}
 use Rattle.fields.specs.Field.{space, digit0, is_digit}
 use Rattle.fields.specs.declared.Field.{Field}
 use Rattle.fields.specs.declared.Field.TheVariants.{Number, Misformed}

@@ -8,7 +8,7 @@ use native.Mathlib.Nat.{add-zero}
 use lib.Dec.{eqb, ltb}
 use borrow.Author.Tests.{eq-eqb, ne_eqb}
 use Rattle.logic.specs.Test.{◌and◌, ◌or◌}
-use Rattle.logic.specs.Choice.{if◌then◌else◌}
+use Rattle.std.specs.Prelude.{if◌then◌else◌}
 use Rattle.model.specs.Network.{Network, input, unit_delay, rank_order}
 use Rattle.model.specs.Module.{Module, local_earlier, local_present, switch_earlier, switch_present, no_part, reads, must_be_none, operand_right}
 use Rattle.model.specs.ModuleFile.{module_of}

@@ -2,7 +2,7 @@
 -- a caller reads.
 use Rattle.std.specs.Prelude.{ℕ, Bool, List, eqb}
 use Rattle.logic.specs.Test.{◌and◌}
-use Rattle.logic.specs.Choice.{if◌then◌else◌}
+use Rattle.std.specs.Prelude.{if◌then◌else◌}
 use Rattle.model.specs.Network.{unit_delay}
 use Rattle.model.specs.Module.{Module, local_earlier, local_present, sent_part, sent_signal, received, reads}
 use Rattle.model.specs.ModuleFile.{module_of}

@@ -10,7 +10,7 @@ use lib.ListN.{length, get_or, set, replicate, length-set, length-replicate}
 use lib.Seq.{get_or-set_same, get_or-set_other}
 use borrow.Author.Tests.{eq-eqb, eqb-true, eqb-false}
 use Rattle.logic.specs.Test.{one}
-use Rattle.logic.specs.Choice.{if◌then◌else◌}
+use Rattle.std.specs.Prelude.{if◌then◌else◌}
 use Rattle.graph_ranks.specs.Graph.{Edge, Path, Followed, Graph}
 use Rattle.graph_ranks.proofs.Stores.{all_zero}
 use Rattle.model.specs.Network.{Signal, rank_order, Feeds, Chain}

@@ -1,7 +1,7 @@
 -- The rank-order gates and their feeders, store by store as the code loads them. `proofs/Closed` says what graph this is.
 use Rattle.std.specs.Prelude.{ℕ, zero, suc, ◌+◌, ◌*◌, ◌/◌, ◌%◌, List, eqb, get_or, set, replicate}
 use Rattle.logic.specs.Test.{one}
-use Rattle.logic.specs.Choice.{if◌then◌else◌}
+use Rattle.std.specs.Prelude.{if◌then◌else◌}
 use Rattle.model.specs.Network.{rank_order}
 use Rattle.model.specs.Netlist.{net_field}
 

@@ -7,7 +7,7 @@ use mathlib.Core.List.{List}
 use native.Mathlib.Omega.{arith}
 use native.Mathlib.Numerals.{add-one}
 use lib.ListN.{length, get_or}
-use Rattle.logic.specs.Choice.{if◌then◌else◌}
+use Rattle.std.specs.Prelude.{if◌then◌else◌}
 use Rattle.logic.proofs.Listed.{is_listed}
 use Rattle.graph_ranks.specs.Graph.{Followed, FirstLoop}
 use Rattle.graph_ranks.specs.Ranks.{highest_to, Ranked}

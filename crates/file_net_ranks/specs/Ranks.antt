@@ -1,6 +1,6 @@
 -- The ranks of a network's signals, as a list of 4097 numbers.
 use Rattle.std.specs.Prelude.{ℕ, List}
-use Rattle.logic.specs.Choice.{if◌then◌else◌}
+use Rattle.std.specs.Prelude.{if◌then◌else◌}
 use Rattle.logic.specs.Listed.{listed}
 use Rattle.model.specs.Network.{Network, is_signal}
 use Rattle.model.specs.Ranks.{rank_of}

@@ -8,7 +8,7 @@ use lib.Dec.{eqb, leb, ltb}
 use lib.ListN.{length}
 use borrow.Author.Tests.{eq-eqb, lt-ltb, ltb-false, leb-true}
 use Rattle.logic.specs.Test.{◌and◌, ◌or◌}
-use Rattle.logic.specs.Choice.{if◌then◌else◌}
+use Rattle.std.specs.Prelude.{if◌then◌else◌}
 use Rattle.logic.proofs.Tests.{and_left}
 use Rattle.model.specs.Refusal.{Check, pass, first, unless}
 use Rattle.model.specs.Network.{Network, is_signal, input}

@@ -9,7 +9,7 @@ use lib.Dec.{leb}
 use native.Mathlib.Decide.{ℕ_discrete}
 use lib.ListN.{length, get_or, set, length-set}
 use lib.Seq.{get_or-set_same, get_or-set_other}
-use Rattle.logic.specs.Choice.{if◌then◌else◌}
+use Rattle.std.specs.Prelude.{if◌then◌else◌}
 use Rattle.fields.specs.Field.{number_at}
 use Rattle.fields.specs.Line.{is_line_at}
 use Rattle.model.specs.Refusal.{first, unless}

@@ -8,7 +8,7 @@ use native.Mathlib.Decide.{le_ind}
 use lib.Dec.{eqb}
 use borrow.Author.Tests.{le-leb, lt-leb}
 use Rattle.logic.specs.Test.{◌and◌}
-use Rattle.logic.specs.Choice.{if◌then◌else◌}
+use Rattle.std.specs.Prelude.{if◌then◌else◌}
 use Rattle.model.specs.Refusal.{pass}
 use Rattle.model.specs.Network.{Network}
 use Rattle.model.specs.Stimulus.{stim_time, stim_signal, stim_value, stim_check, stim_count, last_given}

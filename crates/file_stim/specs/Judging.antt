@@ -2,7 +2,7 @@
 -- `stim_check` is what a caller reads.
 use Rattle.std.specs.Prelude.{ℕ, zero, suc, ◌+◌, Bool, List, eqb, leb, ltb}
 use Rattle.logic.specs.Test.{◌and◌, ◌or◌}
-use Rattle.logic.specs.Choice.{if◌then◌else◌}
+use Rattle.std.specs.Prelude.{if◌then◌else◌}
 use Rattle.model.specs.Network.{Network, is_signal, input}
 use Rattle.model.specs.Stimulus.{stim_time, stim_signal, stim_value}
 use Rattle.file_stim.specs.declared.StimAnswer.{StimAnswer}

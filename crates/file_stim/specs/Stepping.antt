@@ -1,6 +1,6 @@
 -- STIM line by line: what the line at an index says.
 use Rattle.std.specs.Prelude.{ℕ, ◌+◌, List}
-use Rattle.logic.specs.Choice.{if◌then◌else◌}
+use Rattle.std.specs.Prelude.{if◌then◌else◌}
 use Rattle.model.specs.Stimulus.{stim_time, stim_signal, stim_value, is_end}
 use Rattle.file_stim.specs.declared.Step.{Step}
 use Rattle.file_stim.specs.declared.Step.TheVariants.{Given, End}

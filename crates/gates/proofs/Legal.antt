@@ -8,7 +8,7 @@ use native.Mathlib.Omega.{arith}
 use lib.Dec.{eqb, leb}
 use borrow.Author.Tests.{leb-true}
 use Rattle.logic.specs.Test.{◌and◌, some, every, count}
-use Rattle.logic.specs.Choice.{if◌then◌else◌}
+use Rattle.std.specs.Prelude.{if◌then◌else◌}
 use Rattle.gates.specs.Value.{U, Z, Code, is, known, unknown}
 use Rattle.gates.specs.Translation.{is_constant, invert, without_z, translation}
 use Rattle.gates.specs.Function.{conjunction, parity, selection, majority, function}

@@ -1,7 +1,7 @@
 -- Functions of four operands, house definitions (01, Values and gates).
 use Rattle.std.specs.Prelude.{ℕ, ◌+◌, ◌%◌, Bool, [], ◌∷◌, eqb, leb}
 use Rattle.logic.specs.Test.{◌and◌, some, every, count}
-use Rattle.logic.specs.Choice.{if◌then◌else◌}
+use Rattle.std.specs.Prelude.{if◌then◌else◌}
 use Rattle.gates.specs.Value.{U, is, known, unknown}
 
 -- the codes supplied: 0 to 4

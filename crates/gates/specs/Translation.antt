@@ -1,6 +1,6 @@
 -- Translations (01, Values and gates), which the source calls GDM.
 use Rattle.std.specs.Prelude.{ℕ, Bool, eqb, leb}
-use Rattle.logic.specs.Choice.{if◌then◌else◌}
+use Rattle.std.specs.Prelude.{if◌then◌else◌}
 use Rattle.gates.specs.Value.{U, Z}
 
 -- the codes supplied: 0 to 6

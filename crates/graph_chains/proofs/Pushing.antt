@@ -8,7 +8,7 @@ use lib.Dec.{eqb}
 use lib.ListN.{length, get_or, set, length-set}
 use lib.Seq.{get_or-set_same}
 use borrow.Author.Tests.{eqb-true, eqb-false, eq-eqb, ne_eqb}
-use Rattle.logic.specs.Choice.{if◌then◌else◌}
+use Rattle.std.specs.Prelude.{if◌then◌else◌}
 use Rattle.graph_ranks.specs.Graph.{places}
 use Rattle.graph_ranks.specs.Zeros.{zeros}
 use Rattle.graph_chains.specs.Search.{Search, state, Room, pushed, pushed_to, pushed_all}

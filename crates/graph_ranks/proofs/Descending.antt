@@ -6,7 +6,7 @@ use mathlib.Core.List.{List}
 use native.Mathlib.Omega.{arith}
 use lib.Dec.{eqb}
 use lib.ListN.{length, get_or, set}
-use Rattle.logic.specs.Choice.{if◌then◌else◌}
+use Rattle.std.specs.Prelude.{if◌then◌else◌}
 use Rattle.graph_ranks.specs.Graph.{Entries, Graph}
 use Rattle.graph_ranks.specs.Passes.{RankedSoFar, Pass, pass, visited}
 use Rattle.graph_ranks.specs.Descent.{opened, opened_to, LinedUp, Way, Descended}

@@ -10,7 +10,7 @@ use lib.Dec.{eqb, leb}
 use lib.ListN.{length, get_or, set, length-set}
 use lib.Seq.{get_or-set_other}
 use borrow.Author.Tests.{eqb-true, eqb-false, leb-true, leb-false}
-use Rattle.logic.specs.Choice.{if◌then◌else◌}
+use Rattle.std.specs.Prelude.{if◌then◌else◌}
 use Rattle.graph_ranks.specs.Graph.{places, Edge, Followed, Graph}
 use Rattle.graph_ranks.specs.Zeros.{zeros}
 use Rattle.graph_ranks.specs.Ranks.{highest_to, highest, RanksRight, OpenFeeder}

@@ -1,6 +1,6 @@
 -- How the code ranks nodes in the order of a descent: it mirrors private functions, and `Ranked` is what a caller reads.
 use Rattle.std.specs.Prelude.{ℕ, zero, suc, ◌+◌, ◌*◌, ◌≤◌, ◌<◌, ◌≡◌, List, eqb, get_or}
-use Rattle.logic.specs.Choice.{if◌then◌else◌}
+use Rattle.std.specs.Prelude.{if◌then◌else◌}
 use Rattle.graph_ranks.specs.Passes.{RankedSoFar}
 
 -- x where it is a node without a rank, else what was found before

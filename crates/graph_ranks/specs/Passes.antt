@@ -1,6 +1,6 @@
 -- How the code ranks nodes, pass by pass: it mirrors private functions, and `Ranked` is what a caller reads.
 use Rattle.std.specs.Prelude.{ℕ, zero, suc, ◌+◌, ◌*◌, ◌≤◌, ◌≡◌, List, eqb, leb, length, get_or, set}
-use Rattle.logic.specs.Choice.{if◌then◌else◌}
+use Rattle.std.specs.Prelude.{if◌then◌else◌}
 use Rattle.graph_ranks.specs.Graph.{places}
 use Rattle.graph_ranks.specs.Zeros.{zeros}
 use Rattle.graph_ranks.specs.Ranks.{RanksRight}

@@ -1,7 +1,7 @@
 -- What a pair of a table line names (01, One cycle of the machine): "0 local, earlier half; 1 local, present half; 2 switch, earlier
 -- half; 3 switch, present half", and 9 none.
 use Rattle.std.specs.Prelude.{ℕ, eqb}
-use Rattle.logic.specs.Choice.{if◌then◌else◌}
+use Rattle.std.specs.Prelude.{if◌then◌else◌}
 use Rattle.model.specs.Module.{local_earlier, local_present, switch_earlier, switch_present, no_part}
 use Rattle.instruction.specs.declared.Operand.{Operand}
 use Rattle.instruction.specs.declared.Operand.TheVariants.{LocalEarlier, LocalPresent, SwitchEarlier, SwitchPresent, None}

@@ -3,7 +3,7 @@ use mathlib.Core.Path.{◌≡◌, refl, sym, ◌∙◌, ap}
 use mathlib.Core.Bool.{true, false}
 use mathlib.Core.List.{List}
 use native.Mathlib.Omega.{arith}
-use Rattle.logic.specs.Choice.{if◌then◌else◌}
+use Rattle.std.specs.Prelude.{if◌then◌else◌}
 use Rattle.model.specs.Session.{Call, Lengths, Lent, same_lengths, Answer, refused, Reply}
 use Rattle.model.specs.Demands.{Trace, end, next}
 use Rattle.session_answers.specs.Answers.{answer_bits}

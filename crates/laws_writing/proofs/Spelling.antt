@@ -10,7 +10,7 @@ use lib.Dec.{eqb, leb, ltb}
 use lib.ListN.{length, get_or, replicate, length-append, length-replicate}
 use borrow.Author.Tests.{eqb-true, eqb-false, le-leb, lt-leb, ne_eqb, eq-eqb, ltb-true, ltb-false, not-true}
 use Rattle.logic.specs.Test.{◌or◌, every}
-use Rattle.logic.specs.Choice.{if◌then◌else◌}
+use Rattle.std.specs.Prelude.{if◌then◌else◌}
 use Rattle.logic.proofs.Tests.{and_left, and_right, and_true}
 use Rattle.fields.specs.Field.{is_digit, after_spaces, decimal, no_leading_zero, is_numeral, is_field, number}
 use Rattle.fields.proofs.Digit.{digit_within, digit_low, digit_high, numeral_leading, numeral_digits, numeral_small, numeral_right}

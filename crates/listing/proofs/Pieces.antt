@@ -15,7 +15,7 @@ use Rattle.model.specs.Stimulus.{end_time}
 use Rattle.model.specs.Acceptance.{panel_limit, network_of, given_of, Accepted}
 use Rattle.model.specs.Listing.{value_at, joined, listed_first, listed_change, listed_cycle}
 use Rattle.model.specs.Netlist.{network}
-use Rattle.logic.specs.Choice.{if◌then◌else◌}
+use Rattle.std.specs.Prelude.{if◌then◌else◌}
 use Rattle.model.proofs.Value.{start_code}
 use Rattle.model.proofs.Accepted.{net_accepted, net_size_lem, stim_accepted, stim_right, held_code}
 use Rattle.model.proofs.Demands.{joined_same}

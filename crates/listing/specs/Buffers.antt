@@ -1,7 +1,7 @@
 -- Every byte of the working buffers after the first k pieces of the listing of accepted files: functions of the files
 -- and of k alone. The program's table stays as it was loaded (`program_of`).
 use Rattle.std.specs.Prelude.{ℕ, zero, suc, List, eqb, leb, ltb}
-use Rattle.logic.specs.Choice.{if◌then◌else◌}
+use Rattle.std.specs.Prelude.{if◌then◌else◌}
 use Rattle.logic.specs.Listed.{listed}
 use Rattle.model.specs.Files.{Files}
 use Rattle.model.specs.Network.{is_signal, input}

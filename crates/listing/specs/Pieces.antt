@@ -1,6 +1,6 @@
 -- The listing in pieces (01, Listing): time 0, then each cycle, then the last line.
 use Rattle.std.specs.Prelude.{ℕ, zero, suc, ◌+◌, List, [], ◌∷◌, ltb}
-use Rattle.logic.specs.Choice.{if◌then◌else◌}
+use Rattle.std.specs.Prelude.{if◌then◌else◌}
 use Rattle.writing.specs.Text.{line_text}
 use Rattle.model.specs.Files.{Files}
 use Rattle.model.specs.Stimulus.{end_time}

@@ -11,7 +11,7 @@ use lib.ListN.{length, get_or, set, length-set, length-append}
 use lib.Seq.{sets, length-sets, get_or-set_same, get_or-set_other}
 use borrow.Author.Tests.{eq-eqb, ne_eqb, le-leb, lt-leb}
 use Rattle.logic.specs.Test.{◌and◌}
-use Rattle.logic.specs.Choice.{if◌then◌else◌}
+use Rattle.std.specs.Prelude.{if◌then◌else◌}
 use Rattle.logic.proofs.Listed.{is_listed}
 use Rattle.writing.specs.Text.{line_text}
 use Rattle.writing.proofs.Writing.{sets_append, length_line}

@@ -2,7 +2,7 @@
 -- and signal").
 use Rattle.std.specs.Prelude.{ℕ, suc, List, [], ◌∷◌, eqb, leb}
 use Rattle.logic.specs.Test.{◌and◌}
-use Rattle.logic.specs.Choice.{if◌then◌else◌}
+use Rattle.std.specs.Prelude.{if◌then◌else◌}
 use Rattle.logic.specs.Listed.{listed}
 use Rattle.writing.specs.Text.{line_text}
 use Rattle.model.specs.Listing.{joined}

@@ -1,3 +1,2 @@
 pub mod Test
-pub mod Choice
 pub mod Listed

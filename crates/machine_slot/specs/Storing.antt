@@ -1,7 +1,7 @@
 -- How a slot fetches and stores: these mirror private functions, and the model's `slot` is what a caller reads.
 use Rattle.std.specs.Prelude.{ℕ, ◌<◌, ◌≡◌, Bool, not, List, eqb, ltb, get_or, set}
 use Rattle.logic.specs.Test.{◌and◌}
-use Rattle.logic.specs.Choice.{if◌then◌else◌}
+use Rattle.std.specs.Prelude.{if◌then◌else◌}
 use Rattle.gates.specs.Gate.{gate}
 use Rattle.model.specs.Network.{Network, input}
 use Rattle.model.specs.Module.{Module, received}

@@ -13,7 +13,7 @@ use lib.Dec.{eqb, leb, ltb}
 use lib.ListN.{length}
 use borrow.Author.Tests.{eqb-true, leb-true, ltb-true, not-true, eqb-false, le-leb}
 use Rattle.logic.specs.Test.{◌and◌, ◌or◌}
-use Rattle.logic.specs.Choice.{if◌then◌else◌}
+use Rattle.std.specs.Prelude.{if◌then◌else◌}
 use Rattle.logic.proofs.Tests.{and_left, and_right, all_at, or_cases, or_otherwise}
 use Rattle.gates.specs.Translation.{is_translation, is_constant}
 use Rattle.gates.specs.Function.{is_function}

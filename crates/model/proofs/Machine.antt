@@ -10,7 +10,7 @@ use native.Mathlib.Numerals.{one-add}
 use native.Mathlib.Omega.{arith}
 use lib.Dec.{eqb}
 use borrow.Author.Tests.{eqb-true, eqb-false, ne_eqb}
-use Rattle.logic.specs.Choice.{if◌then◌else◌}
+use Rattle.std.specs.Prelude.{if◌then◌else◌}
 use Rattle.model.specs.Network.{Network, Signal, input, unit_delay, rank_order}
 use Rattle.model.specs.Value.{value_of, evaluate, Step}
 use Rattle.model.specs.Module.{Module, At, Laid, local_earlier, local_present, switch_earlier, switch_present, no_sender, received, sent_part, sent_signal, send_right, Sent, present, earlier, Carries, local_earlier_lem, local_present_lem, local_not_yet, switch_earlier_lem, switch_present_lem, switch_not_yet}

@@ -9,7 +9,7 @@ use native.Mathlib.Omega.{arith}
 use lib.Dec.{eqb}
 use borrow.Author.Tests.{eqb-true, eqb-false, eq-eqb, ne_eqb, ltb-true, lt-ltb, not-true}
 use Rattle.logic.specs.Test.{◌or◌}
-use Rattle.logic.specs.Choice.{if◌then◌else◌}
+use Rattle.std.specs.Prelude.{if◌then◌else◌}
 use Rattle.logic.proofs.Tests.{and_left, and_right, and_true}
 use Rattle.model.specs.Network.{Network, input, unit_delay, rank_order}
 use Rattle.model.specs.Module.{Module, local_earlier, local_present, no_part, no_sender, sent_part, sent_signal, send_right, reception_right, reads, must_be_none, operand_right, Sent, present, earlier, Carries, local_earlier_lem, local_present_lem, local_not_yet, switch_earlier_lem, switch_present_lem, switch_not_yet}

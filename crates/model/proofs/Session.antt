@@ -4,7 +4,7 @@ use Prim.Native.Nat.{ℕ, zero, suc}
 use mathlib.Core.Path.{◌≡◌, refl, sym, ◌∙◌, ap, subst}
 use mathlib.Core.Bool.{Bool, true, false}
 use lib.Dec.{eqb, leb}
-use Rattle.logic.specs.Choice.{if◌then◌else◌}
+use Rattle.std.specs.Prelude.{if◌then◌else◌}
 use Rattle.model.specs.Refusal.{Check, pass, fail, unless}
 use Rattle.model.specs.Network.{Network, Signal, is_signal}
 use Rattle.model.specs.Session.{Engine, watched, Head, Call, set, watch, read, run, Lengths, Lent, value, Run, unless_stopped, runs, ticks, replaced, Outcome, same_lengths, call_check, lent_check, running, perform, meet, outcome}

@@ -1,6 +1,6 @@
 -- The two halves by number, and the roles that they have in a cycle: cycle t stores half t % 2 and reads the other as the earlier one.
 use Rattle.std.specs.Prelude.{ℕ, ◌+◌, ◌%◌, eqb}
-use Rattle.logic.specs.Choice.{if◌then◌else◌}
+use Rattle.std.specs.Prelude.{if◌then◌else◌}
 use Rattle.model.specs.Network.{Network}
 use Rattle.model.specs.Module.{Module}
 use Rattle.model.specs.Machine.{Memory, slots}

@@ -1,6 +1,6 @@
 -- The lockstep machine (01, One cycle of the machine), for every module, accepted or not.
 use Rattle.std.specs.Prelude.{ℕ, zero, suc, Bool, not, List, [], ◌∷◌, eqb}
-use Rattle.logic.specs.Choice.{if◌then◌else◌}
+use Rattle.std.specs.Prelude.{if◌then◌else◌}
 use Rattle.model.specs.Network.{Network, input}
 use Rattle.model.specs.Value.{value_of}
 use Rattle.model.specs.Module.{Module, local_earlier, local_present, switch_earlier, switch_present, received, sent_signal}

@@ -1,7 +1,7 @@
 -- A module: which signal each processor has in each slot, what each operand reads, and the switch (01, One cycle of the machine).
 use Rattle.std.specs.Prelude.{ℕ, ◌+◌, ◌≤◌, ◌<◌, ◌≡◌, Bool, not, ◌⊎◌, eqb, ltb}
 use Rattle.logic.specs.Test.{◌and◌, ◌or◌, one, total}
-use Rattle.logic.specs.Choice.{if◌then◌else◌}
+use Rattle.std.specs.Prelude.{if◌then◌else◌}
 use Rattle.model.specs.Network.{Network, input, unit_delay, rank_order}
 
 -- "A location named by a table line has a part and a number: 0 local, earlier half; 1 local, present half; 2 switch, earlier

@@ -1,7 +1,7 @@
 -- The two procedures (000, Unit-delay simulation, Rank-order simulation), as functions of the values by signal, and a cycle of
 -- this unit by them.
 use Rattle.std.specs.Prelude.{ℕ, zero, suc, max, List, [], ◌∷◌, eqb}
-use Rattle.logic.specs.Choice.{if◌then◌else◌}
+use Rattle.std.specs.Prelude.{if◌then◌else◌}
 use Rattle.model.specs.Network.{Network, input, unit_delay}
 use Rattle.model.specs.Value.{evaluate, start}
 use Rattle.model.specs.Ranks.{rank_of}

@@ -2,7 +2,7 @@
 -- 32 in their order, and the values that it gives.
 use Rattle.std.specs.Prelude.{ℕ, zero, suc, ◌+◌, ◌*◌, Bool, true, false, List, eqb, leb, ltb, length}
 use Rattle.logic.specs.Test.{◌and◌, ◌or◌}
-use Rattle.logic.specs.Choice.{if◌then◌else◌}
+use Rattle.std.specs.Prelude.{if◌then◌else◌}
 use Rattle.gates.specs.Value.{U}
 use Rattle.fields.specs.Field.{number_at}
 use Rattle.fields.specs.Line.{is_line_at}

@@ -1,6 +1,6 @@
 -- VAL (01, Values and gates): the rules, and a function that computes the one table that follows them.
 use Rattle.std.specs.Prelude.{ℕ, zero, suc, ◌≡◌, true, false, List, [], ◌∷◌, eqb}
-use Rattle.logic.specs.Choice.{if◌then◌else◌}
+use Rattle.std.specs.Prelude.{if◌then◌else◌}
 use Rattle.model.specs.Network.{Network, Signal, input, unit_delay, rank_order}
 
 -- what an operand without a source reads. Its translation is a constant (12), so that the number does not matter

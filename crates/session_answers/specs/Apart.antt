@@ -1,7 +1,7 @@
 -- An answer taken out of its 64 bits, as a caller in C does by the functions of include/cavundir.h (docs/PANEL.md). The caller knows the
 -- kind of the call; answers of different kinds share bits (a read of 3, and a run of 3 cycles).
 use Rattle.std.specs.Prelude.{ℕ, ◌/◌, ◌%◌, ◌^◌, Bool, eqb}
-use Rattle.logic.specs.Choice.{if◌then◌else◌}
+use Rattle.std.specs.Prelude.{if◌then◌else◌}
 use Rattle.model.specs.Session.{Answer, refused, done, value, ran}
 
 -- set and watch, read, run

@@ -1,6 +1,6 @@
 -- What every call asks of the buffers first: 40, then 44 (01, Refusals). What a command then answers and writes.
 use Rattle.std.specs.Prelude.{ℕ, ◌≡◌, List}
-use Rattle.logic.specs.Choice.{if◌then◌else◌}
+use Rattle.std.specs.Prelude.{if◌then◌else◌}
 use Rattle.model.specs.Session.{same_lengths, Outcome}
 use Rattle.buffers_range.specs.Ranges.{ranged}
 use Rattle.session_answers.specs.declared.CallAnswer.TheVariants.{WrongLength, OutOfRange}

@@ -7,7 +7,7 @@ use native.Mathlib.Omega.{arith}
 use lib.Dec.{ltb}
 use lib.ListN.{get_or}
 use borrow.Author.Tests.{ltb-true, ltb-false}
-use Rattle.logic.specs.Choice.{if◌then◌else◌}
+use Rattle.std.specs.Prelude.{if◌then◌else◌}
 use Rattle.traces.specs.Bits.{bit, bits}
 use Rattle.traces.specs.Turned.{block_length, recorded, turned_byte}
 use Rattle.traces.proofs.Bits.{bit_small, bit_of_0, bit_shift, bits_same, low_byte, bit_of_bits, bit_above_bits}

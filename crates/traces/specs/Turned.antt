@@ -2,7 +2,7 @@
 -- are counted from 0, the earliest.
 use Rattle.std.specs.Prelude.{ℕ, ◌+◌, ◌*◌, ◌/◌, ◌%◌, Bool, List, eqb, ltb, get_or}
 use Rattle.logic.specs.Test.{◌or◌, all}
-use Rattle.logic.specs.Choice.{if◌then◌else◌}
+use Rattle.std.specs.Prelude.{if◌then◌else◌}
 use Rattle.logic.specs.Listed.{listed}
 use Rattle.traces.specs.Bits.{bit, bits}
 

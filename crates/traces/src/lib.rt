@@ -2,7 +2,7 @@
 // `cavundir_panel` exports the two calls for C.
 
 ghost use Rattle.std.specs.Prelude.{◌≡◌, ◌+◌, ◌*◌, ◌%◌, ◌<◌, ◌≤◌, ltb, length, get_or};
-ghost use Rattle.logic.specs.Choice.{if◌then◌else◌};
+ghost use Rattle.std.specs.Prelude.{if◌then◌else◌};
 ghost use Rattle.session_answers.specs.Answers.{check_bits};
 ghost use Rattle.session_answers.specs.Left.{left_after};
 ghost use Rattle.traces.specs.Bits.{bit, bits};
