@@ -516,7 +516,7 @@ def turn(names, crate, root, only):
             new = e["places_by_name"][i]
             d1 = re.match(re.escape(n) + r"((?:\s+\S+?)*?)\s*=(?![=])\s*(.*)$", df[0], re.S)
             ps = d1[1].split()
-            typ = dd["sig"][m.end() :]
+            typ = re.sub(r"^\s*→\s*", "", dd["sig"][m.end() :]).strip()
             typ = fun.inline(fun.convert(typ, {m[3] or ps[0]: (i, [])}), i)
             body = fun.inline(fun.convert(d1[2], {ps[0]: (i, [])}), i)
             unf = list(dict.fromkeys(([dd["unf"]] if dd["unf"] else [])))

@@ -55,6 +55,12 @@ apart_bits reading (value v) (read_value l) =
 apart_bits running (ran count stopped) (cycles l) =
     let o = one_low stopped in
     not_refused running (count + 65536 * one stopped) (omega arith) ∙ run_back count stopped l
+apart_bits reading done h = elim h [ ]
+apart_bits running done h = elim h [ ]
+apart_bits setting (value v) h = elim h [ ]
+apart_bits running (value v) h = elim h [ ]
+apart_bits setting (ran count stopped) h = elim h [ ]
+apart_bits reading (ran count stopped) h = elim h [ ]
 
 -- taken apart and put together, the bits of an answer are what they were
 pub bits_apart : (k : Kind) (a : Answer) (bits : ℕ) → AnswerOf k a → bits ≡ answer_bits a → answer_bits (apart k bits) ≡ bits
@@ -71,3 +77,9 @@ bits_fit k (refused number returned) (refusal low high l) = omega arith
 bits_fit setting done nothing = omega arith
 bits_fit reading (value v) (read_value l) = omega arith
 bits_fit running (ran count stopped) (cycles l) = let o = one_low stopped in omega arith
+bits_fit reading done h = elim h [ ]
+bits_fit running done h = elim h [ ]
+bits_fit setting (value v) h = elim h [ ]
+bits_fit running (value v) h = elim h [ ]
+bits_fit setting (ran count stopped) h = elim h [ ]
+bits_fit reading (ran count stopped) h = elim h [ ]
