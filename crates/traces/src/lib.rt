@@ -1,6 +1,8 @@
 // Traces turned by signal (02, ticket 7): the values of one signal in up to 64 cycles, a byte each, into a block of 16 bytes, and back.
 // `cavundir_panel` exports the two calls for C.
 
+#![tactic(auto)]
+
 ghost use Rattle.std.specs.Prelude.{◌≡◌, ◌+◌, ◌*◌, ◌%◌, ◌<◌, ◌≤◌, ltb, length, get_or};
 ghost use Rattle.std.specs.Prelude.{if◌then◌else◌};
 ghost use Rattle.session_answers.specs.Answers.{check_bits};

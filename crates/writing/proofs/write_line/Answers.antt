@@ -11,13 +11,12 @@ unfolding flat_map
 loop-k-init c = search rules
 
 pub loop-k-preserved : goal.loop-k-preserved
-loop-k-preserved c =
-    (
-      omega arith,
-      omega arith,
-      c.write_field.auto.out ∙ c.loop-k.invariant.2,
-      c.write_field.ensures ∙ fields_more _ _ _ _ _ _ c.loop-k.invariant.3 c.loop-k-test.true c.loop-k.invariant.1,
-    )
+loop-k-preserved c = (
+  omega arith,
+  omega arith,
+  c.write_field.auto.out ∙ c.loop-k.invariant.2,
+  c.write_field.ensures ∙ fields_more _ _ _ _ _ _ c.loop-k.invariant.3 c.loop-k-test.true c.loop-k.invariant.1,
+)
 
 pub returns-clause-out_after : goal.returns-clause-out_after
 returns-clause-out_after c = line_stored _ _ _ _ _ _ c.loop-k.invariant.3 (omega arith) c.loop-k.invariant.1
