@@ -60,8 +60,17 @@ class Function:
     def place(self, old):
         for name, i in self.places.items():
             if norm(name) == norm(old):
-                return i
+                return self.whole(i)
         return None
+
+    def whole(self, i):
+        """Within an arm, the place after all that the arm tells: the one that Goals names."""
+        arm = self.e["arms"][i] if i < len(self.e["arms"]) else None
+        if arm:
+            name = arm[0].replace("in", "In", 1)
+            if name in self.e["places_by_name"]:
+                return self.e["places_by_name"].index(name)
+        return i
 
     def clause(self, names, rest, what):
         """The path below requires or ensures: nested pairs become names."""
@@ -110,6 +119,19 @@ class Function:
         self.look(f"no step {head} at {self.e['places'][i][0]}")
         return None, [head] + fields
 
+    def variant(self, i):
+        """The variant that the first arm of the match at place i takes, and how many fields it has."""
+        p, arms = self.e["places"][i], self.e["arms"]
+        for j, q in enumerate(self.e["places"]):
+            if j == i or q[1] != p[1] or q[2][0] != p[2][0] or not q[2][1].startswith("in-"):
+                continue
+            n = 0
+            for arm in arms:
+                if arm and arm[0] == q[2][1]:
+                    n = max(n, len({tuple(f[2]) for f in arm[2] if f[2][:2] == ["given", "0"]}))
+            return re.match(r"in-([A-Za-z]+)", q[2][1])[1], n
+        return None
+
     def step(self, i, head, fields):
         p = self.e["places"][i]
         arm = self.e["arms"][i] if i < len(self.e["arms"]) else None
@@ -118,6 +140,11 @@ class Function:
             if got:
                 return got
         old, new = p[2]
+        if norm(head) == norm(old) and len(fields) == 1 and re.fullmatch(r"keys\d", fields[0]) and new.startswith("in_default"):
+            v = self.variant(i)
+            if v:
+                return [f"{new}.not-{v[0]}" + " _" * v[1]]
+            self.look(f"{head}.{fields[0]} at {p[0]}")
         if not (norm(head) == norm(old) or norm(re.sub("_lem$", "", head)) == norm(old)):
             return None
         callee = p[3]
@@ -182,6 +209,8 @@ class Function:
         if path is None:
             return "⟪" + str(j) + "⟫"
         text = ".".join(["c"] + path)
+        if text.endswith(" _"):
+            return f"({text})"
         # a test of !x says today what it says of x
         if len(path) == 2 and path[0].startswith("if-not-") and path[1] in ("true", "false"):
             return f"(ap not {text})"
@@ -222,7 +251,7 @@ class Function:
 
         text = re.sub(r"(?<![^\s(){}\[\];,])\(?(" + NAME + r") (?:⟪\d+⟫|c(?![^\s(){}\[\];,]))\)?(?=[\s)\],;]|$)", lambda m: one(m) if m[0].startswith("(") == m[0].endswith(")") else self.half(m, one), text)
         if not answer:
-            text = text.replace(f"⟪{here}⟫", "c")
+            text = re.sub(r"⟪(\d+)⟫", lambda m: "c" if self.whole(int(m[1])) == self.whole(here) else m[0], text)
         return text
 
     def half(self, m, one):
@@ -235,7 +264,7 @@ class Function:
         """What stands for a whole place: its record, of the goal at hand."""
 
         def put(m):
-            name = self.e["places_by_name"][int(m[1])]
+            name = self.e["places_by_name"][self.whole(int(m[1]))]
             return f"(goal.at.{goal} c).{name}" if goal else f"⟪{name}⟫"
 
         return re.sub(r"⟪(\d+)⟫", put, text)
@@ -501,7 +530,13 @@ def turn(names, crate, root, only):
                 new = e["places_by_name"][i]
                 types.add(new)
                 body = whole[whole.index(dd["sig"]) + len(mm[0]) :]
-                body = fun.convert(body, {mm[1]: (i, [])})
+                env = {mm[1]: (i, [])}
+                for q in re.finditer(r"(?m)^  abbrev (\S+) : tie\.(\S+).*\n  \1 = .*\n+", body):
+                    if fun.place(q[2]) is not None:
+                        env[q[1]] = (fun.place(q[2]), [])
+                        fun.navs[q[1]] = fun.place(q[2])
+                        body = body.replace(q[0], "")
+                body = fun.convert(body, env)
                 body = fun.inline(body, i)
                 helpers.append("\n".join(dd["comments"] + [f"module _ (c : {new}){mm[3]} where"]) + body)
                 for inner in re.findall(r"(?m)^  (?:abbrev |pub )*(" + NAME + r") :", body):
@@ -526,7 +561,7 @@ def turn(names, crate, root, only):
                 names_ = [w for u in unf + more for w in u.split()[1:]]
                 unf = ["unfolding " + " ".join(dict.fromkeys(names_))]
             u = unf[0] if unf else None
-            if len(ps) == 1 and "(" + ps[0] not in typ and not re.match(r"\(\S+ :", typ):
+            if len(ps) == 1 and not re.match(r"\(\S+ :", typ):
                 fun.macros[n] = (typ, body, u, "abbrev" in m[1])
             if "abbrev" in m[1] and n in fun.macros:
                 continue
@@ -535,6 +570,7 @@ def turn(names, crate, root, only):
             helpers.append("\n".join(dd["comments"] + [f"{m[1]}{n} : (c : {new}) → {typ}"] + ([u] if u else []) + [f"{n} c{''.join(' ' + q for q in ps[1:])} =" + sep(body) + body]))
         for j, (n, term, unf, comments) in sorted(answered.items()):
             goal = needs[j][1]
+            extra = ""
             i = fun.place(e["asked_at"][j][0])
             var = "c"
             if n:
@@ -546,12 +582,14 @@ def turn(names, crate, root, only):
                 term = m[2]
                 ps = m[1].split()
                 var = ps[0] if ps else "c"
+                extra = "".join(" " + q for q in ps[1:] if q != "κs")
             term = fun.convert(term, {var: (i, [])})
             term = fun.at(fun.inline(term, i, True), goal)
             if fun.unfoldings:
                 names_ = [w for q in ([unf] if unf else []) + fun.unfoldings for w in q.split()[1:]]
                 unf = "unfolding " + " ".join(dict.fromkeys(names_))
                 fun.unfoldings = []
+            term = re.sub(r"\b(stops|refuses|call_refused|call_done) \S*type refl ", r"\1 ", term)
             callee = None
             parts = None
             mm = re.match(r"(.*)-requires(-\d+)?$", needs[j][0])
@@ -577,15 +615,15 @@ def turn(names, crate, root, only):
                     parts = [f"({bare})" + ".1" * k + (".0" if k < n - 1 else "") for k in range(n)]
                 if parts is None:
                     fun.look(f"{goal}: several clauses, and no tuple")
-                    answers.append((goal, f"{head}pub {goal} : goal.{goal}\n{u}{goal} c =\n    {term}"))
+                    answers.append((goal, f"{head}pub {goal} : goal.{goal}\n{u}{goal} c{extra} =\n    {term}"))
                     continue
                 for cl, p in zip(clauses, parts):
                     g = f"{goal}-clause-{cl}"
                     t = re.sub(r"goal\.at\.%s c\b" % re.escape(goal), f"goal.at.{g} c", lets + p)
-                    answers.append((g, f"{head}pub {g} : goal.{g}\n{u}{g} c ={sep(t)}{t}"))
+                    answers.append((g, f"{head}pub {g} : goal.{g}\n{u}{g} c{extra} ={sep(t)}{t}"))
                     head = ""
             else:
-                answers.append((goal, f"{head}pub {goal} : goal.{goal}\n{u}{goal} c ={sep(term)}{term}"))
+                answers.append((goal, f"{head}pub {goal} : goal.{goal}\n{u}{goal} c{extra} ={sep(term)}{term}"))
         with open(os.path.join(folder, "Answers.txt"), "w", encoding="utf-8") as fo:
             json.dump({"intro": intro, "uses": plain, "mod": mod, "types": sorted(types), "helpers": helpers, "answers": answers}, fo, ensure_ascii=False, indent=1)
         os.rename(path, os.path.join(folder, "Proof.txt"))
@@ -609,7 +647,10 @@ def used(uses, body):
         keep = []
         for it in [x.strip() for x in m[2].split(",")]:
             n = it.split(" as ")[-1].strip()
-            if "◌" in n:
+            if n == "[]":
+                if "[]" in body:
+                    keep.append(it)
+            elif "◌" in n:
                 core = [p for p in n.split("◌") if p]
                 if n in words or all(p in words for p in core):
                     keep.append(it)

@@ -1,5 +1,7 @@
 // 44 (01, Refusals): "a number in a working buffer lies outside the range that this paper gives it".
 
+#![tactic(auto)]
+
 ghost use Rattle.std.specs.Prelude.{◌≡◌, length};
 ghost use Rattle.buffers_memory.specs.Memory.{memory_length};
 ghost use Rattle.buffers_tables.specs.Panel.{panel_length};

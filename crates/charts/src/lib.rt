@@ -1,6 +1,8 @@
 // Chart pages (02, ticket 1): up to 56 chosen signals and 72 recorded cycles, as the text of a page to print.
 // `cavundir_panel` exports the call for C.
 
+#![tactic(auto)]
+
 ghost use Rattle.std.specs.Prelude.{◌≡◌, ◌+◌, ◌≤◌, length, get_or};
 ghost use Rattle.std.proofs.lemmas.List.Edits.{sets};
 ghost use Rattle.logic.specs.Listed.{listed};

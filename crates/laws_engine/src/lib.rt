@@ -1,1 +1,3 @@
 // Demand 3 over any engine, without code.
+
+#![tactic(auto)]

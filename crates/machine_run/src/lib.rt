@@ -1,5 +1,7 @@
 // The lockstep machine over the working tables: a cycle, and k cycles with the watch (01, One cycle of the machine, Session).
 
+#![tactic(auto)]
+
 ghost use Rattle.std.specs.Prelude.{◌≡◌, ◌<◌, ◌≤◌, length};
 ghost use Rattle.gates.specs.Value.{Code};
 ghost use Rattle.gates.specs.Table.{GateTables};

@@ -6,23 +6,20 @@ use mathlib.Core.Bool.{Bool}
 use mathlib.Core.List.{List}
 use mathlib.Core.Logic.{⊎_elim}
 use native.Mathlib.Omega.{arith}
-use denote.Enum.Declared.{Declared, tag_of}
 use Rattle.model.specs.Refusal.{Check, pass, fail, first, unless, first_below}
 use Rattle.model.proofs.Refusals.{first_fail, unless_false, below_fail}
 use Rattle.file_lines.specs.Answer.{Answers}
-use Rattle.file_lines.proofs.Stages.{Other, passes, refuses}
+use Rattle.file_lines.proofs.Stages.{passes, refuses}
 use Rattle.session_answers.specs.Answers.{answer_bits, check_bits}
 use Rattle.session_answers.specs.Left.{left_after}
 use Rattle.session_answers.specs.Recorded.{recorded_check}
 use Rattle.session_answers.proofs.Left.{left_done, left_refused}
 
--- the accepting variant is the first of the enum T
-module _ (T : Declared) {refusal : T.D → Check} {x : T.D} (is-first : tag_of T x ≡ 0) {check : Check} {r : T.D}
-    (answers : Answers refusal x check r) (bytes lent : List ℕ) where
-  pub call_refused : Other T r → {bits : ℕ} → bits ≡ check_bits (refusal r) → (bits ≡ check_bits check) × (lent ≡ left_after check bytes lent)
+module _ {A : Type 0} {refusal : A → Check} {x : A} {check : Check} {r : A} (answers : Answers refusal x check r) (bytes lent : List ℕ) where
+  pub call_refused : (r ≡ x → ⊥) → {bits : ℕ} → bits ≡ check_bits (refusal r) → (bits ≡ check_bits check) × (lent ≡ left_after check bytes lent)
   call_refused other e = (
     e ∙ ap check_bits answers.refuses,
-    sym (left_refused check bytes lent (λ p. refuses T is-first answers other (answers.refuses ∙ p))),
+    sym (left_refused check bytes lent (λ p. refuses answers other (answers.refuses ∙ p))),
   )
 
   pub call_done : r ≡ x → refusal x ≡ pass → {left : List ℕ} → left ≡ bytes → (0 ≡ check_bits check) × (left ≡ left_after check bytes lent)

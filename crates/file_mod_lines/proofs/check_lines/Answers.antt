@@ -26,7 +26,8 @@ all_read c =
 -- the line is right where all its fields are and byte 10 ends it
 form : (c : Else-not-ends_line) → is_line_at c.args.modfile.now (85 * (c.lines.k + 1)) 14 ≡ true
 form c =
-    fields_end (all_read ⟪14⟫) c.loop-column-test.false c.ends_line.ensures ∙ not-false _ (ap not c.if-not-ends_line.false)
+    fields_end (let told : let start = 85 * (c.lines.k + 1) in
+    FieldsRight c.args.modfile.now start 14 c.loop-column.column (start + 84) = record { few = c.loop-column.invariant.1.few; here = omega (arith, c.loop-column.invariant.1.few, c.loop-column-test.false); right = c.loop-column.invariant.1.right } in told) c.loop-column-test.false c.ends_line.ensures ∙ not-false _ (ap not c.if-not-ends_line.false)
 
 -- how many lines there are
 total : (c : At-lines) → c.line_count-lines.result ≡ mod_processors c.args.modfile.now * mod_slots c.args.modfile.now
@@ -62,27 +63,27 @@ lines-preserved c =
 
 pub returns-after-lines : goal.returns-after-lines
 unfolding each_line
-returns-after-lines c =
+returns-after-lines c n e =
     lines_end _ _ (c.lines.invariant.2 n e) _ (omega (arith, total (goal.at.returns-after-lines c).At-lines)) (omega (arith, total (goal.at.returns-after-lines c).At-lines))
     (c.lines.invariant.0 ∙ same_sizes c.requires.processors c.requires.slots) (ap mod_refusal c.lines.invariant.0)
 
 -- a field that is wrong
 pub returns-in_default : goal.returns-in_default
 unfolding each_line
-returns-in_default c =
+returns-in_default c n e =
     let wrong = fields_stop c.loop-column.invariant.1 c.loop-column-test.true (sym c.read_field.ensures ∙ c.in_default.is) in
     lines_stop _ _ (c.lines.invariant.2 n e) _ (omega (arith, total (goal.at.returns-in_default c).At-lines)) refl (misformed _ _ n wrong)
 
 -- another byte than 10
 pub returns-then-not-ends_line : goal.returns-then-not-ends_line
 unfolding each_line
-returns-then-not-ends_line c =
+returns-then-not-ends_line c n e =
     let wrong = fields_end (all_read (goal.at.returns-then-not-ends_line c).After-ends_line) c.loop-column-test.false c.ends_line.ensures ∙ not-true _ (ap not c.if-not-ends_line.true) in
     lines_stop _ _ (c.lines.invariant.2 n e) _ (omega (arith, total (goal.at.returns-then-not-ends_line c).At-lines)) refl (misformed _ _ n wrong)
 
 -- a wrong layout
 pub returns-then-not-line_laid : goal.returns-then-not-line_laid
 unfolding each_line
-returns-then-not-line_laid c =
+returns-then-not-line_laid c n e =
     lines_stop _ _ (c.lines.invariant.2 n e) _ (omega (arith, total (goal.at.returns-then-not-line_laid c).At-lines)) refl
     (layout_wrong _ _ n (form (goal.at.returns-then-not-line_laid c).Else-not-ends_line) _ _ c.requires _ (laid (goal.at.returns-then-not-line_laid c).After-line_laid n e) (not-true _ (ap not c.if-not-line_laid.true)))

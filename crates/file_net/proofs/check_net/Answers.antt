@@ -1,0 +1,60 @@
+-- Each stage that accepts leaves what the next one requires (`after`); the first that refuses answers for all (`stops`).
+-- line 1 passes, and N is at most 4096
+use Prim.Native.Nat.{◌≤◌}
+use mathlib.Core.Path.{◌≡◌, refl}
+use Rattle.model.specs.Refusal.{pass}
+use Rattle.model.specs.Netlist.{net_size, net_header, net_check}
+use Rattle.file_lines.proofs.Stages.{passes, same, after, stops}
+use Rattle.file_net.specs.Stages.{net_lines}
+use Rattle.file_net.proofs.Accepted.{size_small, lines_right}
+use Rattle.file_net.proofs.check_net.Goals as goal
+use Rattle.file_net.proofs.check_net.Goals.{In-Accepted, In-Accepted-lines}
+
+module _ (c : In-Accepted) where
+  header-passes : net_header c.args.limit c.args.net.now ≡ pass
+  header-passes = passes c.check_header-header.ensures c.in-Accepted.is refl
+
+  header-size : c.in-Accepted.size ≡ net_size c.args.net.now
+  header-size = cc (same c.check_header-header.ensures c.in-Accepted.is refl)
+
+  header-small : net_size c.args.net.now ≤ 4096
+  header-small = size_small c.args.limit _ header-passes c.requires
+
+  size-read : (c.in-Accepted.size ≡ net_size c.args.net.now) × (c.in-Accepted.size ≤ 4096)
+  size-read = (header-size, rw header-size header-small)
+
+-- the lines pass
+lines-pass : (c : In-Accepted-lines) → net_lines c.args.net.now ≡ pass
+lines-pass c = passes c.check_lines-lines.ensures c.in-Accepted-lines.is refl
+
+pub returns-in_default : goal.returns-in_default
+unfolding net_check
+returns-in_default c = stops c.check_header-header.ensures (c.in_default.not-Accepted _) _
+
+pub check_lines-lines-requires : goal.check_lines-lines-requires
+check_lines-lines-requires c = size-read (goal.at.check_lines-lines-requires c).In-Accepted
+
+pub returns-in_default-lines : goal.returns-in_default-lines
+unfolding net_check
+returns-in_default-lines c =
+    after (header-passes (goal.at.returns-in_default-lines c).In-Accepted) (stops c.check_lines-lines.ensures (c.in_default-lines.not-Accepted _) _)
+
+pub check_surplus-surplus-requires : goal.check_surplus-surplus-requires
+check_surplus-surplus-requires c = size-read (goal.at.check_surplus-surplus-requires c).In-Accepted
+
+pub returns-in_default-surplus : goal.returns-in_default-surplus
+unfolding net_check
+returns-in_default-surplus c =
+    after (header-passes (goal.at.returns-in_default-surplus c).In-Accepted)
+    (after (lines-pass (goal.at.returns-in_default-surplus c).In-Accepted-lines) (stops c.check_surplus-surplus.ensures (c.in_default-surplus.not-Accepted _) _))
+
+pub check_chains-requires : goal.check_chains-requires
+check_chains-requires c =
+    rw (header-size (goal.at.check_chains-requires c).In-Accepted) (lines_right _ _ (header-passes (goal.at.check_chains-requires c).In-Accepted) (lines-pass (goal.at.check_chains-requires c).In-Accepted-lines) (header-small (goal.at.check_chains-requires c).In-Accepted))
+
+pub returns : goal.returns
+unfolding net_check
+returns c =
+    after (header-passes (goal.at.returns c).In-Accepted)
+    (after (lines-pass (goal.at.returns c).In-Accepted-lines)
+    (after (passes c.check_surplus-surplus.ensures c.in-Accepted-surplus.is refl) c.check_chains.ensures))
