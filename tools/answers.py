@@ -226,6 +226,9 @@ class Function:
         text = re.sub(r"\((" + NAME + r") (" + NAME + r"(?:\." + NAME + r")*)\)((?:\." + NAME + r")*)", nav, text)
 
         def one(m):
+            # the name of a field, in a record that is made
+            if not m[2] and re.match(r" =\s", m.string[m.end() :]) and re.search(r"[{;]\s*$", m.string[: m.start()]):
+                return m[0]
             got = self.value(m[1], m[2], env)
             return self.path(*got) if got else m[0]
 

@@ -1,5 +1,7 @@
 // The numbers of MOD's lines after the first, by processor and slot, where every line is right by itself.
 
+#![tactic(auto)]
+
 ghost use Rattle.std.specs.Prelude.{◌≡◌, true, ◌+◌, ◌*◌, ◌<◌, ◌≤◌};
 ghost use Rattle.fields.specs.Field.{number_at};
 ghost use Rattle.fields.specs.Line.{is_line_at};

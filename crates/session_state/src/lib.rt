@@ -1,5 +1,7 @@
 // The session by value: what the panel's bytes hold of it, decoded and encoded, and the commands as its methods.
 
+#![tactic(auto)]
+
 ghost use Rattle.std.specs.Prelude.{◌≡◌, List, ℕ, ◌≤◌, ◌<◌, length};
 ghost use Rattle.gates.specs.Table.{GateTables};
 ghost use Rattle.model.specs.Session.{set as setting, watch as watching, read as reading, run as running};

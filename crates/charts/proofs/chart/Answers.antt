@@ -1,4 +1,5 @@
 -- By the answer of the check: refused (`call_refused`), or the page is written (`call_done`).
+use mathlib.Core.List.{[]}
 use mathlib.Core.Path.{◌≡◌, refl}
 use native.Mathlib.Omega.{arith}
 use Rattle.model.specs.Refusal.{pass}
@@ -20,7 +21,7 @@ module _ (c : In-Done) where
   counts = chart_counts _ _ _ _ _ _ chart-passes
 
 pub returns-in_default-clause-answer : goal.returns-in_default-clause-answer
-returns-in_default-clause-answer c = (call_refused c.check_chart-answer.ensures _ _ c.in_default.not-Done c.bits.ensures).0
+returns-in_default-clause-answer c = (call_refused c.check_chart-answer.ensures [] [] c.in_default.not-Done c.bits.ensures).0
 
 pub returns-in_default-clause-page : goal.returns-in_default-clause-page
 returns-in_default-clause-page c = (call_refused c.check_chart-answer.ensures _ _ c.in_default.not-Done c.bits.ensures).1
@@ -36,7 +37,7 @@ write_page-requires c =
     (l.signals_size, l.values_size, l.page_size, n.count_high, n.cycles_low, n.cycles_high, n.last_high)
 
 pub returns-clause-answer : goal.returns-clause-answer
-returns-clause-answer c = (call_done c.check_chart-answer.ensures _ _ c.in-Done.is refl c.write_page.ensures).0
+returns-clause-answer c = (call_done c.check_chart-answer.ensures [] [] c.in-Done.is refl refl).0
 
 pub returns-clause-page : goal.returns-clause-page
 returns-clause-page c = (call_done c.check_chart-answer.ensures _ _ c.in-Done.is refl c.write_page.ensures).1

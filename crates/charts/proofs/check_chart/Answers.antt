@@ -15,10 +15,10 @@ module _ (c : In-Done) where
   lent = lent_right _ _ _ lent-passes
 
 module _ (c : In-Done-counts) where
-  counts_pass : counts_check (entry ⟪6⟫).args.count (entry ⟪6⟫).args.first (entry ⟪6⟫).args.cycles ≡ pass
+  counts_pass : counts_check c.args.count c.args.first c.args.cycles ≡ pass
   counts_pass = passes c.check_counts-counts.ensures c.in-Done-counts.is refl
 
-  counts : ChartCounts (entry ⟪6⟫).args.count (entry ⟪6⟫).args.first (entry ⟪6⟫).args.cycles
+  counts : ChartCounts c.args.count c.args.first c.args.cycles
   counts = counts_right _ _ _ counts_pass
 
 pub returns-in_default : goal.returns-in_default
@@ -32,21 +32,21 @@ returns-in_default-counts c =
 
 pub check_signals-chosen-requires : goal.check_signals-chosen-requires
 check_signals-chosen-requires c =
-    ((lent (told (goal.at.check_signals-chosen-requires c).In-Done-counts)).signals_size, (counts (goal.at.check_signals-chosen-requires c).In-Done-counts).count_high)
+    ((lent (goal.at.check_signals-chosen-requires c).In-Done).signals_size, (counts (goal.at.check_signals-chosen-requires c).In-Done-counts).count_high)
 
 pub returns-in_default-chosen : goal.returns-in_default-chosen
 unfolding chart_check
 returns-in_default-chosen c =
-    after (lent-passes (told (goal.at.returns-in_default-chosen c).In-Done-counts))
+    after (lent-passes (goal.at.returns-in_default-chosen c).In-Done)
     (after (counts_pass (goal.at.returns-in_default-chosen c).In-Done-counts) (stops c.check_signals-chosen.ensures c.in_default-chosen.not-Done _))
 
 pub check_values-requires : goal.check_values-requires
 check_values-requires c =
-    ((lent (told (goal.at.check_values-requires c).In-Done-counts)).values_size, (counts (goal.at.check_values-requires c).In-Done-counts).count_high, (counts (goal.at.check_values-requires c).In-Done-counts).cycles_high)
+    ((lent (goal.at.check_values-requires c).In-Done).values_size, (counts (goal.at.check_values-requires c).In-Done-counts).count_high, (counts (goal.at.check_values-requires c).In-Done-counts).cycles_high)
 
 pub returns : goal.returns
 unfolding chart_check
 returns c =
-    after (lent-passes (told (goal.at.returns c).In-Done-counts))
+    after (lent-passes (goal.at.returns c).In-Done)
     (after (counts_pass (goal.at.returns c).In-Done-counts)
     (after (passes c.check_signals-chosen.ensures c.in-Done-chosen.is refl) c.check_values.ensures))

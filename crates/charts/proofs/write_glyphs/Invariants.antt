@@ -1,6 +1,6 @@
 -- The invariant: the values of c cycles are stored.
 use Prim.Native.Nat.{◌-◌, ◌+◌}
-use mathlib.Core.List.{◌∷◌}
+use mathlib.Core.List.{[], ◌∷◌}
 use lib.ListN.{get_or}
 use Rattle.charts.specs.Page.{glyph}
 use Rattle.charts.proofs.Writing.{StoredUpTo}

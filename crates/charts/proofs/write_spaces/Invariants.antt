@@ -1,6 +1,6 @@
 -- The invariant: k spaces are stored.
 use Prim.Native.Nat.{◌-◌}
-use mathlib.Core.List.{◌∷◌}
+use mathlib.Core.List.{[], ◌∷◌}
 use Rattle.fields.specs.Field.{space}
 use Rattle.charts.proofs.Writing.{StoredUpTo}
 use Rattle.charts.proofs.write_spaces.Given as goal

@@ -1,0 +1,32 @@
+-- `set`: 41, 42 and the setting, each as the model has it.
+use mathlib.Core.Path.{refl, sym, ◌∙◌}
+use Rattle.session_state.specs.Carried.{head_of}
+use Rattle.logic.proofs.Judged.{passes}
+use Rattle.session_state.proofs.Commands.{signal_low, signal_high, input_signal, set_41, set_42, set_done, tells}
+use Rattle.buffers_tables.proofs.Hands.{hands_own, hands_replaced}
+use native.Mathlib.Omega.{arith}
+use mathlib.Core.Path.{ap}
+use mathlib.Core.Bool.{not}
+use Rattle.session_state.proofs.Session.set.Goals as goal
+
+pub returns-then-not-known : goal.returns-then-not-known
+returns-then-not-known c =
+    λ program memory. set_41 c.args.panel.now program memory (head_of c.args.self c.args.panel.now) c.args.input c.args.value _ c.is_input-known.ensures (ap not c.if-not-known.true) _ refl refl refl (sym (hands_own _ c.requires.0))
+
+pub returns-then-value-gt3 : goal.returns-then-value-gt3
+returns-then-value-gt3 c =
+    λ program memory. set_42 c.args.panel.now program memory (head_of c.args.self c.args.panel.now) c.args.input c.args.value _ c.is_input-known.ensures (ap not c.if-not-known.false) c.if-value-gt3.true _ refl refl refl (sym (hands_own _ c.requires.0))
+
+pub set_hand-requires : goal.set_hand-requires
+set_hand-requires c =
+    (c.requires.0, omega (arith, c.requires.1, signal_high c.args.panel.now c.args.input (input_signal c.args.panel.now c.args.input (passes _ _ c.is_input-known.ensures (ap not c.if-not-known.false)))))
+
+pub returns : goal.returns
+returns c =
+    let there = passes _ _ c.is_input-known.ensures (ap not c.if-not-known.false) in
+    let known = input_signal c.args.panel.now c.args.input there in
+    λ program memory.
+    tells _ _ _ _ _
+    (set_done c.args.panel.now program memory (head_of c.args.self c.args.panel.now) c.args.input c.args.value there c.if-value-gt3.false)
+    refl refl refl
+    (c.set_hand.ensures ∙ hands_replaced c.args.panel.now c.requires.0 c.args.input c.args.value (signal_low c.args.panel.now c.args.input known) (omega (arith, c.requires.1, signal_high c.args.panel.now c.args.input known)))
