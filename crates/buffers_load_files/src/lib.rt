@@ -1,6 +1,8 @@
 // What loading reads of the first lines of the accepted files: N, P and C. Every byte that loading writes is defined here (specs/Loaded),
 // for the crates that write them.
 
+#![tactic(auto)]
+
 ghost use Rattle.std.specs.Prelude.{◌≡◌, ◌≤◌};
 ghost use Rattle.model.specs.Netlist.{net_size};
 ghost use Rattle.model.specs.Checked.{Checked};

@@ -1,5 +1,7 @@
 // The memory before cycle 1 from an accepted MOD and the signals' time 0 values, filled byte by byte: a function answers what a byte is.
 
+#![tactic(auto)]
+
 ghost use Rattle.std.specs.Prelude.{◌≡◌, ◌<◌, length, get_or};
 ghost use Rattle.model.specs.ModuleFile.{module_of};
 ghost use Rattle.model.specs.Value.{value_of};

@@ -1,5 +1,7 @@
 // The panel as a session opens, from accepted NET and MOD and the signals' time 0 values: where each signal is placed, then every byte.
 
+#![tactic(auto)]
+
 ghost use Rattle.std.specs.Prelude.{◌≡◌, ℕ, ◌<◌, ◌≤◌, length, get_or};
 ghost use Rattle.logic.specs.Listed.{listed};
 ghost use Rattle.model.specs.Netlist.{net_size, net_field, codes};

@@ -1,5 +1,7 @@
 // The program buffer from an accepted MOD, filled byte by byte: a function answers what a byte is.
 
+#![tactic(auto)]
+
 ghost use Rattle.std.specs.Prelude.{◌≡◌, ◌<◌, length, get_or};
 ghost use Rattle.model.specs.ModuleFile.{module_of};
 ghost use Rattle.file_mod_table.specs.Line.{LinesLaid, LineOf};

@@ -1,5 +1,7 @@
 // The signals' time 0 values from accepted NET and STIM, in an array by signal: U for all, then what STIM gives.
 
+#![tactic(auto)]
+
 ghost use Rattle.std.specs.Prelude.{◌≡◌, length};
 ghost use Rattle.logic.specs.Listed.{listed};
 ghost use Rattle.model.specs.Refusal.{pass};

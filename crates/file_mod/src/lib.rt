@@ -1,5 +1,7 @@
 // MOD's check (01, Refusals): its lines, then what they place, send, receive and read, by 22, 24, 25 and 23, each over all lines.
 
+#![tactic(auto)]
+
 ghost use Rattle.std.specs.Prelude.{◌≡◌, ℕ, ◌<◌, ◌≤◌, length, get_or};
 ghost use Rattle.model.specs.Network.{Network};
 ghost use Rattle.model.specs.Netlist.{net_size, network};

@@ -1,5 +1,7 @@
 // What a line of MOD sends, receives and reads (01, Refusals): 24, 25 and 23 of one line, where every line is right by itself.
 
+#![tactic(auto)]
+
 ghost use Rattle.std.specs.Prelude.{◌≡◌, ◌≤◌, eqb};
 ghost use Rattle.logic.specs.Test.{all};
 ghost use Rattle.model.specs.Netlist.{net_size, network};

@@ -1,1 +1,3 @@
 // Theorems on the machine over accepted files' buffers, without code.
+
+#![tactic(auto)]

@@ -1,5 +1,7 @@
 // The session's four calls on byte buffers (01, Session). `cavundir_panel` exports them for C.
 
+#![tactic(auto)]
+
 ghost use Rattle.std.specs.Prelude.{◌≡◌, List, ℕ, ◌≤◌, ◌<◌, length};
 ghost use Rattle.model.specs.Session.{set as setting, watch as watching, read as reading, run as running};
 ghost use Rattle.buffers_memory.specs.Memory.{with_memory, MemoryBytes};

@@ -1,0 +1,11 @@
+-- `load_values` meets its contract. The invariant: the values are those that the lines before the cursor give.
+use Prim.Native.Nat.{◌-◌}
+use Rattle.model.specs.Stimulus.{stim_count}
+use Rattle.buffers_load_values.proofs.Values.{GivenTo}
+use Rattle.buffers_load_values.proofs.load_values.Given as goal
+
+abbrev pub invariant-loop-time : goal.invariant-loop-time
+invariant-loop-time l = GivenTo l.net l.stim l.cursor.line l.values
+
+abbrev pub decreases-loop-time : goal.decreases-loop-time
+decreases-loop-time l = stim_count l.stim - l.cursor.line

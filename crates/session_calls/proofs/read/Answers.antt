@@ -1,0 +1,25 @@
+-- `read`: the buffers are judged, and each case is that of the reply.
+use Rattle.session_calls.proofs.Judged.{right_panel, right_processor, right_memory}
+use Rattle.session_calls.proofs.Replies.{replies_refused, replies, read_state}
+use Rattle.session_calls.proofs.read.Goals as goal
+
+pub read_in-requires-clause-panel_len : goal.read_in-requires-clause-panel_len
+read_in-requires-clause-panel_len c = right_panel _ _ c.readiness.ensures c.in-Right.is
+
+pub read_in-requires-clause-by_index : goal.read_in-requires-clause-by_index
+read_in-requires-clause-by_index c = right_processor _ _ c.readiness.ensures c.in-Right.is
+
+pub read_in-requires-clause-memory_bytes : goal.read_in-requires-clause-memory_bytes
+read_in-requires-clause-memory_bytes c = right_memory _ _ c.readiness.ensures c.in-Right.is
+
+pub returns-in-Refused-clause-answer : goal.returns-in-Refused-clause-answer
+returns-in-Refused-clause-answer c = (replies_refused _ _ _ c.readiness.ensures _ c.in-Refused.is _ c.bits.ensures).0
+
+pub returns-in-Refused-clause-left : goal.returns-in-Refused-clause-left
+returns-in-Refused-clause-left c = (replies_refused _ _ _ c.readiness.ensures _ c.in-Refused.is _ c.bits.ensures).1
+
+pub returns-in-Right-clause-answer : goal.returns-in-Right-clause-answer
+returns-in-Right-clause-answer c = (replies _ _ _ c.readiness.ensures c.in-Right.is _ _ (c.read_in.ensures _) (read_state _ _ _ _ _)).0
+
+pub returns-in-Right-clause-left : goal.returns-in-Right-clause-left
+returns-in-Right-clause-left c = (replies _ _ _ c.readiness.ensures c.in-Right.is _ _ (c.read_in.ensures _) (read_state _ _ _ _ _)).1

@@ -1,0 +1,7 @@
+-- `read_in`: the head that a read hands back is the panel's own.
+use Rattle.session_calls.proofs.Replies.{reads}
+use Rattle.session_calls.proofs.read_in.Goals as goal
+
+pub returns : goal.returns
+returns c =
+    λ program. reads c.args.panel.now program c.args.memory.now c.args.signal _ c.decode.ensures.0 c.decode.ensures.1 _ (c.read-told.ensures program) _ c.bits.ensures
