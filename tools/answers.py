@@ -333,6 +333,19 @@ def split_lets(term):
     return head, t
 
 
+def last_group(t):
+    """Where the last parenthesized argument of a term begins, or 0."""
+    t = t.rstrip()
+    if not t.endswith(")"):
+        return 0
+    depth = 0
+    for k in range(len(t) - 1, -1, -1):
+        depth += (t[k] == ")") - (t[k] == "(")
+        if depth == 0:
+            return k
+    return 0
+
+
 def nested(term, n):
     head, t = split_lets(term)
     parts, rest = [], t
@@ -483,7 +496,7 @@ def turn(names, crate, root, only):
                 for p in sub:
                     if re.search(r"(λ[^.]*\s|\()" + re.escape(p) + r"(\s[^.]*)?(\.|\s:)", body):
                         fun.look(f"{kind} {n}: {p} may be bound again in it")
-                body = PATHTOKEN.sub(lambda m: sub[m[1]] + m[2] if m[1] in sub else m[0], body)
+                body = substituted(body, sub)
                 unf = ("\n" + decls[n]["unf"]) if decls[n]["unf"] else ""
                 out.append("\n".join(decls[n]["comments"]) + ("\n" if decls[n]["comments"] else "") + f"abbrev pub {kind}-{newname} : goal.{kind}-{newname}{unf}\n{kind}-{newname} l =" + (" " if "\n" not in body else "\n    ") + body)
         mod = f"Rattle.{crate}.proofs.{f.replace('/', '.')}"
@@ -617,6 +630,15 @@ def turn(names, crate, root, only):
                     n = len(clauses)
                     parts = [f"({bare})" + ".1" * k + (".0" if k < n - 1 else "") for k in range(n)]
                 if parts is None:
+                    # a rewriting in front of a tuple: the clauses as a record
+                    k = last_group(bare)
+                    lets2, parts2 = nested(bare[k:], len(clauses)) if k else ("", None)
+                    if parts2 and re.match(r"(rw|simp) ", bare):
+                        rec = "record { " + "; ".join(f"{cl} = {q}" for cl, q in zip(clauses, parts2)) + " }"
+                        term = lets + bare[:k] + "(" + rec + ")"
+                        answers.append((goal, f"{head}pub {goal} : goal.{goal}\n{u}{goal} c{extra} ={sep(term)}{term}"))
+                        continue
+                if parts is None:
                     fun.look(f"{goal}: several clauses, and no tuple")
                     answers.append((goal, f"{head}pub {goal} : goal.{goal}\n{u}{goal} c{extra} =\n    {term}"))
                     continue
@@ -632,6 +654,34 @@ def turn(names, crate, root, only):
         os.rename(path, os.path.join(folder, "Proof.txt"))
         for s in fun.said:
             print(f"look: {f}: {s}")
+
+
+def substituted(body, sub):
+    """The body with its parameters replaced; a name that a λ binds again stays up to the end of its parentheses."""
+    out, at, depth, bound = "", 0, 0, []
+    for m in re.finditer(r"λ ((?:\([^()]*\) ?|[^.()\s]+ ?)+)\.|[(\[{]|[)\]}]|" + PATHTOKEN.pattern, body):
+        if m.start() < at:
+            continue
+        out += body[at : m.start()]
+        at = m.end()
+        t = m[0]
+        if t.startswith("λ"):
+            bound.append((depth, set(re.findall(r"[^\s():]+", m[1]))))
+            out += t
+        elif t in "([{":
+            depth += 1
+            out += t
+        elif t in ")]}":
+            depth -= 1
+            bound = [b for b in bound if b[0] <= depth]
+            out += t
+        else:
+            q = PATHTOKEN.fullmatch(t)
+            if q and q[1] in sub and not any(q[1] in b[1] for b in bound):
+                out += sub[q[1]] + q[2]
+            else:
+                out += t
+    return out + body[at:]
 
 
 def sep(t):

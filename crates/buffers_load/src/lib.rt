@@ -1,5 +1,7 @@
 // The opening of a session: every byte of the panel, the program and the memory, from three accepted files.
 
+#![tactic(auto)]
+
 ghost use Rattle.std.specs.Prelude.{◌≡◌, length};
 ghost use Rattle.model.specs.Refusal.{pass};
 ghost use Rattle.model.specs.Files.{files_of};

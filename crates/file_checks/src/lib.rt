@@ -1,5 +1,7 @@
 // The three file checks one after the other, and the line of a refusal.
 
+#![tactic(auto)]
+
 ghost use Rattle.std.specs.Prelude.{◌≡◌, ◌≤◌, length};
 ghost use Rattle.std.proofs.lemmas.List.Edits.{sets};
 ghost use Rattle.model.specs.Files.{files_of};

@@ -1,5 +1,7 @@
 // What the listing does for a time (01, Listing): it takes the settings of STIM, runs one cycle, and writes the lines of the changes.
 
+#![tactic(auto)]
+
 ghost use Rattle.std.specs.Prelude.{◌≡◌, ℕ, ◌+◌, ◌≤◌, ◌<◌, length, get_or, set};
 ghost use Rattle.std.proofs.lemmas.List.Edits.{sets};
 ghost use Rattle.gates.specs.Table.{GateTables};
