@@ -74,6 +74,8 @@ class Function:
 
     def clause(self, names, rest, what):
         """The path below requires or ensures: nested pairs become names."""
+        if len(names) == 1 and names[0]:
+            return [names[0]], list(rest)
         if len(names) < 2:
             return [], rest
         k = 0
@@ -622,6 +624,9 @@ def turn(names, crate, root, only):
                 clauses = ctr.get(fun.fn, ([], []))[1]
             head = ("\n".join(comments) + "\n") if comments else ""
             u = (unf + "\n") if unf else ""
+            if len(clauses) == 1 and clauses[0]:
+                lets, bare = split_lets(term)
+                term = f"{lets}record {{ {clauses[0]} = {bare} }}"
             if len(clauses) > 1:
                 lets, parts = nested(term, len(clauses))
                 bare = split_lets(term)[1]

@@ -1,5 +1,7 @@
 // The listing, a piece a step (01, Listing): time 0, then every cycle, then the last line.
 
+#![tactic(auto)]
+
 ghost use Rattle.std.specs.Prelude.{◌≡◌, ℕ, ◌+◌, length};
 ghost use Rattle.gates.specs.Table.{GateTables};
 ghost use Rattle.model.specs.Files.{Files, files_of};

@@ -1,5 +1,7 @@
 // The opening of a session, and the check of its files alone (01, Session). `cavundir_panel` exports them for C.
 
+#![tactic(auto)]
+
 ghost use Rattle.std.specs.Prelude.{◌≡◌, length};
 ghost use Rattle.model.specs.Files.{files_of};
 ghost use Rattle.model.specs.Acceptance.{panel_limit, file_check};
