@@ -1,0 +1,30 @@
+-- What load, fill, decode and the cursor give.
+use Prim.Native.Nat.{ℕ}
+use mathlib.Core.Path.{refl, ◌∙◌, ap}
+use Rattle.logic.specs.Listed.{listed}
+use native.Mathlib.Omega.{arith}
+use Rattle.model.proofs.Accepted.{mod_accepted, stim_accepted}
+use Rattle.model.proofs.Checked.{files_checked}
+use Rattle.model.specs.Acceptance.{panel_limit}
+use Rattle.listing_cycle.specs.Changes.{not_shown}
+use Rattle.listing.proofs.Opening.{accepted_stimulus, opened}
+use Rattle.listing.proofs.open.Goals as goal
+
+pub load-requires-clause-checked : goal.load-requires-clause-checked
+load-requires-clause-checked c = files_checked panel_limit (omega arith) _ c.requires.accepted
+
+pub load-requires-clause-modfile_value : goal.load-requires-clause-modfile_value
+load-requires-clause-modfile_value c = mod_accepted panel_limit _ c.requires.accepted
+
+pub load-requires-clause-stim_value : goal.load-requires-clause-stim_value
+load-requires-clause-stim_value c = stim_accepted panel_limit _ c.requires.accepted
+
+pub first_later-cursor-requires : goal.first_later-cursor-requires
+first_later-cursor-requires c = accepted_stimulus _ c.requires.accepted
+
+pub end_time-end-requires-clause-stimulus : goal.end_time-end-requires-clause-stimulus
+end_time-end-requires-clause-stimulus c = accepted_stimulus _ c.requires.accepted
+
+pub returns : goal.returns
+returns c =
+    opened _ c.requires.accepted _ _ _ _ _ c.load.ensures.panel_after c.load.ensures.program_after c.load.ensures.memory_after c.decode-session.ensures.0 c.first_later-cursor.ensures c.end_time-end.ensures refl (c.fill.ensures ∙ ap (λ (n : ℕ). listed n (λ a. not_shown)) c.requires.panel_len.3)
