@@ -1,0 +1,32 @@
+-- The line of a refusal fits, and is the one part of what is printed.
+use mathlib.Core.Path.{◌∙◌}
+use native.Mathlib.Omega.{arith}
+use Rattle.file_checks.specs.Refused.{refused_text}
+use Rattle.file_checks.proofs.Refused.{refused_short}
+use borrow.Author.Rules.{rules}
+use Rattle.listing_print.proofs.Parts.{prefix_length}
+use Rattle.listing_print.proofs.Printing.{written, line_short, refusal_part, refusal_count, refusal_handed}
+use Rattle.listing_print.proofs.print_refusal.Goals as goal
+
+pub slice_bounds-line-end : goal.slice_bounds-line-end
+slice_bounds-line-end c =
+    omega (arith, c.write_refusal-length.auto.answer, line_short _ _ c.write_refusal-length.ensures.value)
+
+pub slice_bounds-put-end : goal.slice_bounds-put-end
+slice_bounds-put-end c =
+    prefix_length c.write_refusal-length.result c.write_refusal-length.new.1.0 (omega (arith, c.write_refusal-length.auto.answer, line_short _ _ c.write_refusal-length.ensures.value))
+
+pub put-requires-clause-part_value : goal.put-requires-clause-part_value
+put-requires-clause-part_value c =
+    let one = refusal_count _ c.args.answer c.requires.answer_value c.requires.fact in
+    let line = written (refused_text _) _ _ _ c.write_refusal-length.ensures.out_after c.write_refusal-length.ensures.value (refused_short _) in
+    line ∙ refusal_part _ c.args.answer c.requires.answer_value c.requires.fact _
+
+pub put-requires-clause-parts_bound : goal.put-requires-clause-parts_bound
+put-requires-clause-parts_bound c =
+    let one = refusal_count _ c.args.answer c.requires.answer_value c.requires.fact in
+    let line = written (refused_text _) _ _ _ c.write_refusal-length.ensures.out_after c.write_refusal-length.ensures.value (refused_short _) in
+    omega (arith, one, c.requires.parts_value)
+
+pub returns : goal.returns
+returns c = record { handed = search (rules, refusal_handed) }
