@@ -132,6 +132,7 @@ def declarations(path):
 # `use A.B.{a, ◌b◌, c as d}` brings a, ◌b◌ and d; `use A.B as c` and Rattle's `use a::B` bring one name
 IMPORT = re.compile(r"^(ghost\s+)?use\s+([^{};]+?)(?:\{([^{}]*)\})?;?\s*$", re.M)
 CLAUSE = re.compile(r"\b(?:ghost|requires|ensures)\b[^{};]*(?=\{)")
+METHODS = {"FileExt": {"read_at"}}  # a trait of std is used where one of its methods is called
 
 
 def brought(where, names):
@@ -146,8 +147,8 @@ def antt_words(text):
 
 
 def is_used(name, words):
-    """A name is among the words: whole, or all parts of an operator."""
-    return name in words or ("◌" in name and all(part in words for part in name.split("◌") if part))
+    """A name is among the words: whole, or all parts of an operator, or a method of a trait."""
+    return name in words or bool(METHODS.get(name, set()) & words) or ("◌" in name and all(part in words for part in name.split("◌") if part))
 
 
 def unused_imports(path):
