@@ -2,7 +2,7 @@
 """Times the checks of NET, MOD and STIM on the largest files, and NET's on networks that are hard for 13.
 
 Prints ms, the fastest of several calls, and exits 1 where an answer is wrong. With an argument it times that
-archive in place of the one in target/staticlib.
+archive in place of the one in crates/cavundir_panel_c/out.
 """
 import random
 import sys

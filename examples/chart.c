@@ -3,8 +3,8 @@
  * A page has up to 56 signals and 72 cycles. More signals, or more cycles, take more pages. First come all cycles of the
  * first signals, page by page: on the wall they make a row beside the board, and further signals make the row below.
  *
- *     rt staticlib cavundir_panel
- *     gcc -std=c17 -I include examples/chart.c target/staticlib/libcavundir_panel.a -o chart
+ *     (cd crates/cavundir_panel_c && rt lib && cp out/libcavundir_panel_c.a out/libcavundir_panel.a)
+ *     gcc -std=c17 -I include examples/chart.c crates/cavundir_panel_c/out/libcavundir_panel.a -o chart
  */
 #include <inttypes.h>
 #include <stdio.h>

@@ -3,8 +3,8 @@
  * The network has an input, 1, and two gates: 2 is the inverse of 1, and unit-delay: it takes 1 as it was a cycle ago;
  * 3 is the inverse of 2, and rank-order: it takes 2 as it is in the same cycle.
  *
- *     rt staticlib cavundir_panel
- *     gcc -std=c17 -I include examples/panel.c target/staticlib/libcavundir_panel.a -o panel
+ *     (cd crates/cavundir_panel_c && rt lib && cp out/libcavundir_panel_c.a out/libcavundir_panel.a)
+ *     gcc -std=c17 -I include examples/panel.c crates/cavundir_panel_c/out/libcavundir_panel.a -o panel
  */
 #include <inttypes.h>
 #include <stdio.h>

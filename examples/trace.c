@@ -2,8 +2,8 @@
  *
  * The network is that of panel.c: an input, 1; its inverse a cycle later, 2; and the inverse of 2 in the same cycle, 3.
  *
- *     rt staticlib cavundir_panel
- *     gcc -std=c17 -I include examples/trace.c target/staticlib/libcavundir_panel.a -o trace
+ *     (cd crates/cavundir_panel_c && rt lib && cp out/libcavundir_panel_c.a out/libcavundir_panel.a)
+ *     gcc -std=c17 -I include examples/trace.c crates/cavundir_panel_c/out/libcavundir_panel.a -o trace
  */
 #include <inttypes.h>
 #include <stdio.h>

@@ -1,12 +1,12 @@
 """What the suites share: counting trials, and the proved code, to be called from Python."""
 import ctypes
-import os
-import shutil
 import subprocess
 import sys
 import tempfile
 import time
 from pathlib import Path
+
+from building import PROGRAM, archive  # for the suites, too
 
 root = Path(__file__).resolve().parent.parent.parent
 
@@ -50,19 +50,6 @@ def trials(numbers, least, seconds):
 def refusal_in(printed):
     """The refusal that the listing program printed, as tests/independent answers it; None for a listing."""
     return (int(printed[:6]), int(printed[6:12])) if len(printed) == len("    10     1\n") else None
-
-
-def archive():
-    """The archive that a panel links; `rt staticlib` writes it if it is missing or older than a source."""
-    path = root / "target" / "staticlib" / "libcavundir_panel.a"
-    newest = max(source.stat().st_mtime for source in [root / "crates.txt", *(root / "crates").rglob("*")])
-    if not path.exists() or path.stat().st_mtime < newest:
-        rt = shutil.which("rt") or "/opt/rattle/bin/rt"
-        done = subprocess.run([rt, "staticlib", "cavundir_panel"], cwd=root, capture_output=True, text=True)
-        if done.returncode != 0 or not path.exists():
-            raise OSError(f"{done.stdout}{done.stderr}rt staticlib cavundir_panel: exit status {done.returncode}")
-        os.utime(path, (newest, newest))  # it may have left the file alone, if that was right as it stood
-    return path
 
 
 def load(path):

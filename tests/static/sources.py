@@ -6,6 +6,8 @@ import sys
 from dataclasses import dataclass
 from pathlib import Path
 
+root = Path(__file__).resolve().parent.parent.parent
+
 
 @dataclass(frozen=True)
 class Function:
@@ -25,9 +27,15 @@ class Function:
 # a comment, a text, a byte in quotes: none of their brackets count
 HIDDEN = re.compile(r"""//[^\n]*|/\*.*?\*/|"(?:\\.|[^"\\])*"|\bb'(?:\\x..|\\.|[^\\'\n])'""", re.S)
 FUNCTION = re.compile(r'(\bpub\s+)?(\bextern\s+"C"\s+)?\bfn\s+(\w+)')
-IMPL = re.compile(r"\bimpl\b[^{;]*?(\w+)\s*\{")
+IMPL = re.compile(r"^\s*impl\b[^{;]*?(\w+)\s*\{", re.M)  # not a parameter's `&impl Trait`
 # what can stand between a function's parameters and its body: a clause, or a bracket of the result's type
 AFTER_PARAMETERS = re.compile(r"\b(ghost|requires|ensures)\b|[(\[{;]")
+
+
+def sources(folder, *kinds):
+    """The files of some kinds, all if none is named, in a crate's folder or one of crates; what `rt` keeps in out/ is not one."""
+    found = (path for path in folder.rglob("*") if path.suffix in (kinds or (".antt", ".rt")))
+    return sorted(path for path in found if "out" not in path.relative_to(root).parts)
 
 
 def visible(text):
@@ -121,9 +129,10 @@ def declarations(path):
     return declared([line for line in uncommented(Path(path).read_text(encoding="utf-8")) if line])
 
 
-# `use A.B.{a, _b_, c as d}` brings a, _b_ and d; `use A.B as c` and Rattle's `use a::B` bring one name
+# `use A.B.{a, ◌b◌, c as d}` brings a, ◌b◌ and d; `use A.B as c` and Rattle's `use a::B` bring one name
 IMPORT = re.compile(r"^(ghost\s+)?use\s+([^{};]+?)(?:\{([^{}]*)\})?;?\s*$", re.M)
 CLAUSE = re.compile(r"\b(?:ghost|requires|ensures)\b[^{};]*(?=\{)")
+METHODS = {"FileExt": {"read_at"}}  # a trait of std is used where one of its methods is called
 
 
 def brought(where, names):
@@ -138,8 +147,8 @@ def antt_words(text):
 
 
 def is_used(name, words):
-    """A name is among the words: whole, or all parts of an operator."""
-    return name in words or ("_" in name and all(part in words for part in name.split("_") if part))
+    """A name is among the words: whole, or all parts of an operator, or a method of a trait."""
+    return name in words or bool(METHODS.get(name, set()) & words) or ("◌" in name and all(part in words for part in name.split("◌") if part))
 
 
 def unused_imports(path):
@@ -161,9 +170,8 @@ def unused_imports(path):
 
 
 def main():
-    root = Path(__file__).resolve().parent.parent.parent
     passed = failed = 0
-    for path in sorted([*root.glob("crates/*/**/*.antt"), *root.glob("crates/*/**/*.rt")]):
+    for path in sources(root / "crates"):
         faults = unused_imports(path)
         for line, name in faults:
             print(f"{path.relative_to(root)}:{line}: {name} is imported and not used")

@@ -1,4 +1,7 @@
-// Every function that C calls (include/cavundir.h). Each hands its arguments to a library below, and its contract is that one's.
+// Every call of the panel (include/cavundir.h). Each hands its arguments to a library below, and its contract is that one's.
+// `cavundir_panel_c` exports them for C.
+
+#![tactic(auto)]
 
 ghost use Rattle.std.specs.Prelude.{◌≡◌};
 ghost use Rattle.model.specs.Files.{files_of};
@@ -15,16 +18,14 @@ ghost use Rattle.charts.specs.Text.{page_text, printed_on};
 ghost use Rattle.charts.specs.Checks.{chart_check};
 
 // Checks three files, and writes nothing.
-#[unsafe(no_mangle)]
-pub extern "C" fn cavundir_check_files(net: &[u8], modfile: &[u8], stim: &[u8]) -> u64
+pub fn cavundir_check_files(net: &[u8], modfile: &[u8], stim: &[u8]) -> u64
     ensures answer { result ≡ check_bits (file_check panel_limit (files_of net.now modfile.now stim.now)) }
 {
     session_opening::check(net, modfile, stim)
 }
 
 // Opens a session on three files.
-#[unsafe(no_mangle)]
-pub extern "C" fn cavundir_open(
+pub fn cavundir_open(
     net: &[u8],
     modfile: &[u8],
     stim: &[u8],
@@ -41,14 +42,7 @@ pub extern "C" fn cavundir_open(
 }
 
 // Sets an input for the next cycle.
-#[unsafe(no_mangle)]
-pub extern "C" fn cavundir_set(
-    panel: &mut [u8],
-    program: &[u8],
-    memory: &[u8],
-    signal: u32,
-    value: u32,
-) -> u64
+pub fn cavundir_set(panel: &mut [u8], program: &[u8], memory: &[u8], signal: u32, value: u32) -> u64
     ensures answer { result ≡ answer_bits (reply (buffers_of panel.old program.now memory.now) (setting signal value)).answer }
     ensures left { (reply (buffers_of panel.old program.now memory.now) (setting signal value)).buffers ≡ buffers_of panel.new program.now memory.now }
 {
@@ -56,8 +50,7 @@ pub extern "C" fn cavundir_set(
 }
 
 // Sets the one watch.
-#[unsafe(no_mangle)]
-pub extern "C" fn cavundir_watch(
+pub fn cavundir_watch(
     panel: &mut [u8],
     program: &[u8],
     memory: &[u8],
@@ -71,8 +64,7 @@ pub extern "C" fn cavundir_watch(
 }
 
 // Reads a signal.
-#[unsafe(no_mangle)]
-pub extern "C" fn cavundir_read(panel: &[u8], program: &[u8], memory: &[u8], signal: u32) -> u64
+pub fn cavundir_read(panel: &[u8], program: &[u8], memory: &[u8], signal: u32) -> u64
     ensures answer { result ≡ answer_bits (reply (buffers_of panel.now program.now memory.now) (reading signal)).answer }
     ensures left { (reply (buffers_of panel.now program.now memory.now) (reading signal)).buffers ≡ buffers_of panel.now program.now memory.now }
 {
@@ -80,13 +72,7 @@ pub extern "C" fn cavundir_read(panel: &[u8], program: &[u8], memory: &[u8], sig
 }
 
 // Runs `cycles` cycles, or fewer where the watch stops it.
-#[unsafe(no_mangle)]
-pub extern "C" fn cavundir_run(
-    panel: &mut [u8],
-    program: &[u8],
-    memory: &mut [u8],
-    cycles: u32,
-) -> u64
+pub fn cavundir_run(panel: &mut [u8], program: &[u8], memory: &mut [u8], cycles: u32) -> u64
     ensures answer { result ≡ answer_bits (reply (buffers_of panel.old program.now memory.old) (running cycles)).answer }
     ensures left { (reply (buffers_of panel.old program.now memory.old) (running cycles)).buffers ≡ buffers_of panel.new program.now memory.new }
 {
@@ -94,8 +80,7 @@ pub extern "C" fn cavundir_run(
 }
 
 // Turns the recorded values of one signal into a block.
-#[unsafe(no_mangle)]
-pub extern "C" fn cavundir_turn(values: &[u8], block: &mut [u8], count: u32) -> u64
+pub fn cavundir_turn(values: &[u8], block: &mut [u8], count: u32) -> u64
     ensures answer { result ≡ check_bits (turn_check values.now block.old count) }
     ensures block { block.new ≡ left_after (turn_check values.now block.old count) (turned values.now count) block.old }
 {
@@ -103,8 +88,7 @@ pub extern "C" fn cavundir_turn(values: &[u8], block: &mut [u8], count: u32) -> 
 }
 
 // Turns a block back into the values of one signal.
-#[unsafe(no_mangle)]
-pub extern "C" fn cavundir_turn_back(block: &[u8], values: &mut [u8], count: u32) -> u64
+pub fn cavundir_turn_back(block: &[u8], values: &mut [u8], count: u32) -> u64
     ensures answer { result ≡ check_bits (turn_back_check block.now values.old count) }
     ensures values { values.new ≡ left_after (turn_back_check block.now values.old count) (turned_back block.now count) values.old }
 {
@@ -112,8 +96,7 @@ pub extern "C" fn cavundir_turn_back(block: &[u8], values: &mut [u8], count: u32
 }
 
 // Prints a chart page into a buffer.
-#[unsafe(no_mangle)]
-pub extern "C" fn cavundir_chart(
+pub fn cavundir_chart(
     signals: &[u8],
     values: &[u8],
     page: &mut [u8],

@@ -1,5 +1,5 @@
 // Chart pages (02, ticket 1): up to 56 chosen signals and 72 recorded cycles, as the text of a page to print.
-// `cavundir_panel` exports the call for C.
+// `cavundir_panel_c` exports the call for C.
 
 #![tactic(auto)]
 

@@ -1,4 +1,4 @@
-// The session's four calls on byte buffers (01, Session). `cavundir_panel` exports them for C.
+// The session's four calls on byte buffers (01, Session). `cavundir_panel_c` exports them for C.
 
 #![tactic(auto)]
 

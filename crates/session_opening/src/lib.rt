@@ -1,4 +1,4 @@
-// The opening of a session, and the check of its files alone (01, Session). `cavundir_panel` exports them for C.
+// The opening of a session, and the check of its files alone (01, Session). `cavundir_panel_c` exports them for C.
 
 #![tactic(auto)]
 

@@ -1,5 +1,5 @@
 // Traces turned by signal (02, ticket 7): the values of one signal in up to 64 cycles, a byte each, into a block of 16 bytes, and back.
-// `cavundir_panel` exports the two calls for C.
+// `cavundir_panel_c` exports the two calls for C.
 
 #![tactic(auto)]
 
