@@ -22,6 +22,10 @@ TOKEN = re.compile(r'--[^\n]*|"(?:[^"\\]|\\.)*"|\.?' + NAME + r"|\s+|.", re.S)
 PATHTOKEN = re.compile(r"(?<![^\s(){}\[\];,])(" + NAME + r")((?:\." + NAME + r")*)")
 
 
+# the functions over a bound, whose goals and invariants take `g` first
+GENERIC = set()
+
+
 def norm(s):
     return s.replace("-", "_")
 
@@ -42,6 +46,11 @@ def contracts(root):
             if m:
                 fn = crate + "::" + (owner + "::" if owner else "") + m[1]
                 out[fn] = ([], [])
+                head = ""
+            if fn and not out[fn][0] and not out[fn][1]:
+                head += line
+                if re.search(r"\bimpl\b", head):
+                    GENERIC.add(fn)
             m = re.match(r"\s*(requires|ensures)\*?\s*(\w+)?\s*\{", line)
             if m and fn:
                 out[fn][m[1] == "ensures"].append(m[2])
@@ -52,7 +61,7 @@ class Function:
     def __init__(self, entry, fn, contracts):
         self.e, self.fn, self.contracts = entry, fn, contracts
         self.places = {p[0]: i for i, p in enumerate(entry["places"])}
-        self.said = []
+        self.said, self.gen = [], " g" if fn in GENERIC else ""
 
     def look(self, text):
         self.said.append(text)
@@ -270,7 +279,7 @@ class Function:
 
         def put(m):
             name = self.e["places_by_name"][self.whole(int(m[1]))]
-            return f"(goal.at.{goal} c).{name}" if goal else f"⟪{name}⟫"
+            return f"(goal.at.{goal}{self.gen} c).{name}" if goal else f"⟪{name}⟫"
 
         return re.sub(r"⟪(\d+)⟫", put, text)
 
@@ -398,6 +407,7 @@ def turn(names, crate, root, only):
             print(f"look: {f}: not in names.json")
             continue
         e = d[key]
+        gen = " g" if crate + "::" + f.replace("/", "::") in GENERIC else ""
         fun = Function(e, crate + "::" + f.replace("/", "::"), ctr)
         text = open(path, encoding="utf-8").read()
         bl = blocks(text)
@@ -486,6 +496,10 @@ def turn(names, crate, root, only):
                 params = m[1].split()
                 body = m[2]
                 want = [v for v in variables] + [v for v, ch in zip(variables, changed) if ch]
+                if len(params) == len(want) - 1 and "rt" in variables:
+                    want.remove("rt")
+                    changed = [ch for v, ch in zip(variables, changed) if v != "rt"]
+                    variables = [v for v in variables if v != "rt"]
                 if len(params) != len(want):
                     fun.look(f"{kind} {n}: {len(params)} parameters, {len(want)} expected: {params} {want}")
                 sub = {}
@@ -500,7 +514,7 @@ def turn(names, crate, root, only):
                         fun.look(f"{kind} {n}: {p} may be bound again in it")
                 body = substituted(body, sub)
                 unf = ("\n" + decls[n]["unf"]) if decls[n]["unf"] else ""
-                out.append("\n".join(decls[n]["comments"]) + ("\n" if decls[n]["comments"] else "") + f"abbrev pub {kind}-{newname} : goal.{kind}-{newname}{unf}\n{kind}-{newname} l =" + (" " if "\n" not in body else "\n    ") + body)
+                out.append("\n".join(decls[n]["comments"]) + ("\n" if decls[n]["comments"] else "") + f"abbrev pub {kind}-{newname} : goal.{kind}-{newname}{unf}\n{kind}-{newname}{gen} l =" + (" " if "\n" not in body else "\n    ") + body)
         mod = f"Rattle.{crate}.proofs.{f.replace('/', '.')}"
         plain = [u for u in uses if not re.search(r"\.(Statement|Tie)\b", u)]
         if out:
@@ -641,19 +655,19 @@ def turn(names, crate, root, only):
                     if parts2 and re.match(r"(rw|simp) ", bare):
                         rec = "record { " + "; ".join(f"{cl} = {q}" for cl, q in zip(clauses, parts2)) + " }"
                         term = lets + bare[:k] + "(" + rec + ")"
-                        answers.append((goal, f"{head}pub {goal} : goal.{goal}\n{u}{goal} c{extra} ={sep(term)}{term}"))
+                        answers.append((goal, f"{head}pub {goal} : goal.{goal}\n{u}{goal}{gen} c{extra} ={sep(term)}{term}"))
                         continue
                 if parts is None:
                     fun.look(f"{goal}: several clauses, and no tuple")
-                    answers.append((goal, f"{head}pub {goal} : goal.{goal}\n{u}{goal} c{extra} =\n    {term}"))
+                    answers.append((goal, f"{head}pub {goal} : goal.{goal}\n{u}{goal}{gen} c{extra} =\n    {term}"))
                     continue
                 for cl, p in zip(clauses, parts):
                     g = f"{goal}-clause-{cl}"
                     t = re.sub(r"goal\.at\.%s c\b" % re.escape(goal), f"goal.at.{g} c", lets + p)
-                    answers.append((g, f"{head}pub {g} : goal.{g}\n{u}{g} c{extra} ={sep(t)}{t}"))
+                    answers.append((g, f"{head}pub {g} : goal.{g}\n{u}{g}{gen} c{extra} ={sep(t)}{t}"))
                     head = ""
             else:
-                answers.append((goal, f"{head}pub {goal} : goal.{goal}\n{u}{goal} c{extra} ={sep(term)}{term}"))
+                answers.append((goal, f"{head}pub {goal} : goal.{goal}\n{u}{goal}{gen} c{extra} ={sep(term)}{term}"))
         with open(os.path.join(folder, "Answers.txt"), "w", encoding="utf-8") as fo:
             json.dump({"intro": intro, "uses": plain, "mod": mod, "types": sorted(types), "helpers": helpers, "answers": answers}, fo, ensure_ascii=False, indent=1)
         os.rename(path, os.path.join(folder, "Proof.txt"))

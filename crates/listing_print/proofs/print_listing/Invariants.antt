@@ -5,7 +5,7 @@ use Rattle.listing_print.proofs.Printing.{Underway}
 use Rattle.listing_print.proofs.print_listing.Given as goal
 
 abbrev pub invariant-loop : goal.invariant-loop
-invariant-loop l = Underway (files_of l.rt l.net l.modfile) l.initial.lister l.piece l.modfile l.failed l.initial.panel l.panel l.memory l.shown l.initial.counter l.parts l.lister
+invariant-loop g l = Underway (files_of l.net l.modfile l.stim) l.count l.lister l.stim l.panel l.program l.memory l.shown l.piece l.parts l.failed l.counter
 
 abbrev pub decreases-loop : goal.decreases-loop
-decreases-loop l = l.initial.lister - l.lister
+decreases-loop g l = l.count - l.counter

@@ -9,24 +9,24 @@ use Rattle.listing_print.proofs.Printing.{written, line_short, refusal_part, ref
 use Rattle.listing_print.proofs.print_refusal.Goals as goal
 
 pub slice_bounds-line-end : goal.slice_bounds-line-end
-slice_bounds-line-end c =
+slice_bounds-line-end g c =
     omega (arith, c.write_refusal-length.auto.answer, line_short _ _ c.write_refusal-length.ensures.value)
 
 pub slice_bounds-put-end : goal.slice_bounds-put-end
-slice_bounds-put-end c =
-    prefix_length c.write_refusal-length.result c.write_refusal-length.new.1.0 (omega (arith, c.write_refusal-length.auto.answer, line_short _ _ c.write_refusal-length.ensures.value))
+slice_bounds-put-end g c =
+    prefix_length c.write_refusal-length.result c.write_refusal-length.new.out (omega (arith, c.write_refusal-length.auto.answer, line_short _ _ c.write_refusal-length.ensures.value))
 
 pub put-requires-clause-part_value : goal.put-requires-clause-part_value
-put-requires-clause-part_value c =
+put-requires-clause-part_value g c =
     let one = refusal_count _ c.args.answer c.requires.answer_value c.requires.fact in
     let line = written (refused_text _) _ _ _ c.write_refusal-length.ensures.out_after c.write_refusal-length.ensures.value (refused_short _) in
     line ∙ refusal_part _ c.args.answer c.requires.answer_value c.requires.fact _
 
 pub put-requires-clause-parts_bound : goal.put-requires-clause-parts_bound
-put-requires-clause-parts_bound c =
+put-requires-clause-parts_bound g c =
     let one = refusal_count _ c.args.answer c.requires.answer_value c.requires.fact in
     let line = written (refused_text _) _ _ _ c.write_refusal-length.ensures.out_after c.write_refusal-length.ensures.value (refused_short _) in
     omega (arith, one, c.requires.parts_value)
 
 pub returns : goal.returns
-returns c = record { handed = search (rules, refusal_handed) }
+returns g c = record { handed = search (rules, refusal_handed) }

@@ -1,7 +1,7 @@
 -- The parts are few, so that their count fits; a write that fails is told and not counted.
-use mathlib.Core.Path.{sym, ap}
-use Rattle.listing_print.specs.Handing.{parts_after}
+use native.Mathlib.Omega.{arith}
+use Rattle.listing_print.proofs.Printing.{parts_few}
 use Rattle.listing_print.proofs.put.Goals as goal
 
 pub overflow_add-parts : goal.overflow_add-parts
-overflow_add-parts c = sym (ap (parts_after c.args.parts.now) c.requires.failed_value)
+overflow_add-parts g c = omega (arith, parts_few _ _ c.requires.parts_bound)
