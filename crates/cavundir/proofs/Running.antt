@@ -15,7 +15,7 @@ use Rattle.model.proofs.Refusals.{first_stays, first_second}
 use Rattle.model.proofs.Demands.{joined_same}
 use Rattle.laws_listing.specs.Reading.{first_bytes}
 use Rattle.listing_print.specs.Handing.{part_for, part_at, count_for, part_count, Handing}
-use Rattle.cavundir.specs.Output.{ReadFrom, Prints}
+use Rattle.cavundir.specs.Output.{ReadFrom, RunPrints}
 use Rattle.cavundir.proofs.Handed.{handed_printed, handed_begins}
 
 -- two readings of files with the same parts
@@ -72,10 +72,19 @@ module _ {files read : Files} (from : ReadFrom files read) where
       record { few = omega (arith, e, h.few); whole = λ q. h.whole q ∙ e; cut = λ q. omega (arith, e, h.cut q) }
 
 -- The parts that the writer was handed for the bytes read are what is printed for the files, and where a write failed they are the beginning
-pub handed_prints : {read : Files} {parts : ℕ} {failed : Bool} → Handing read parts failed → Prints read parts failed
+pub handed_prints : {read : Files} {parts : ℕ} {failed : Bool} → Handing read parts failed → RunPrints read parts failed
 handed_prints told = record {
   all = λ files from unfailed. read_joined from _ ∙ handed_printed files (read_handing from told) unfailed;
   beginning = λ files from.
       let all = handed_begins files (read_handing from told) in
       (all.0, ap (λ (x : List ℕ). x ++ all.0) (read_joined from _) ∙ all.1);
 }
+
+-- What `run` itself tells its caller (`RunPrints`, a clause of its contract), the buffers and the numbers being as it leaves them: the
+-- parts that it counts are what is printed for the files that it read, and where a write failed they are the beginning
+module _ {read : Files} {parts : ℕ} {failed : Bool} (told : RunPrints read parts failed) (files : Files) (from : ReadFrom files read) where
+  pub run_prints : failed ≡ false → joined parts (part_at read) ≡ printed panel_limit files
+  run_prints unfailed = told.all files from unfailed
+
+  pub run_begins : (rest : List ℕ) × (joined parts (part_at read) ++ rest ≡ printed panel_limit files)
+  run_begins = told.beginning files from

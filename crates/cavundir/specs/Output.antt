@@ -23,6 +23,6 @@ pub record Output (files : Files) (text : List ℕ) : Type 0 where
 
 -- What the parts written for the bytes read are, for any whole files of which those are what is read: all that is printed for the files
 -- where no write failed, and its beginning where one did
-pub record Prints (read : Files) (parts : ℕ) (failed : Bool) : Type 0 where
+pub record RunPrints (read : Files) (parts : ℕ) (failed : Bool) : Type 0 where
   pub all : (files : Files) → ReadFrom files read → failed ≡ false → joined parts (part_at read) ≡ printed panel_limit files
   pub beginning : (files : Files) → ReadFrom files read → (rest : List ℕ) × (joined parts (part_at read) ++ rest ≡ printed panel_limit files)

@@ -9,7 +9,7 @@ ghost use Rattle.model.specs.Files.{files_of};
 ghost use Rattle.model.specs.Acceptance.{panel_limit, file_check};
 ghost use Rattle.file_checks.specs.Answer.{file_refusal};
 ghost use Rattle.listing_print.specs.Handing.{Handing};
-ghost use Rattle.cavundir.specs.Output.{Prints};
+ghost use Rattle.cavundir.specs.Output.{RunPrints};
 
 use file_checks::FileAnswer;
 use file_mod_lines::ModAnswer;
@@ -82,7 +82,7 @@ fn run(
     requires parts_value { parts.old ≡ 0 }
     requires failed_value { failed.old ≡ false }
     ensures handed { Handing (files_of (take result.net net.new) (take result.modfile modfile.new) (take result.stim stim.new)) parts.new failed.new }
-    ensures prints { Prints (files_of (take result.net net.new) (take result.modfile modfile.new) (take result.stim stim.new)) parts.new failed.new }
+    ensures prints { RunPrints (files_of (take result.net net.new) (take result.modfile modfile.new) (take result.stim stim.new)) parts.new failed.new }
 {
     let n = file_reading::read_file(rt, b"NET", net);
     let first = file_net::check_net(&net[..n], 4096);
