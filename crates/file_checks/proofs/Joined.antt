@@ -1,6 +1,6 @@
 -- The three checks in the order of the files: the first that refuses answers.
 use Prim.Native.Nat.{ℕ}
-use mathlib.Core.Path.{◌≡◌, refl}
+use mathlib.Core.Path.{◌≡◌}
 use mathlib.Core.List.{List}
 use Rattle.model.specs.Refusal.{Check, pass}
 use Rattle.model.specs.Files.{files_of}

@@ -1,4 +1,3 @@
 pub mod Judged
 pub mod Sends
 pub mod Operands
-pub mod Told

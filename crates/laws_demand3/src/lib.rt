@@ -1,1 +1,3 @@
+#![tactic(auto)]
+
 // Demand 3 over the calls' contracts, without code.

@@ -1,1 +1,3 @@
+#![tactic(auto)]
+
 // Theorems on the session's calls, without code.

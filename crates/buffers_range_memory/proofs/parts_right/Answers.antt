@@ -1,11 +1,10 @@
 -- The invariant: the first j parts are in range.
 use mathlib.Core.Path.{sym, ◌∙◌, ap}
-use mathlib.Core.Bool.{true}
 use Rattle.logic.specs.Test.{all}
 use Rattle.logic.proofs.Tests.{all_ends}
 use Rattle.logic.proofs.Loops.{loop_goes_on, loop_fails}
 use Rattle.buffers_memory.specs.Memory.{memory_parts}
-use Rattle.buffers_range_memory.specs.Order.{values_in, part_at, parts_at}
+use Rattle.buffers_range_memory.specs.Order.{part_at, parts_at}
 use borrow.Author.Rules.{rules}
 use native.Mathlib.Omega.{arith}
 use mathlib.Core.Bool.{not}

@@ -1,6 +1,5 @@
 -- The invariant: the first k signals are in range. N is at most 4096, since the head is in range.
 use mathlib.Core.Path.{sym, ◌∙◌}
-use mathlib.Core.Bool.{true}
 use Rattle.logic.specs.Test.{all}
 use Rattle.logic.proofs.Loops.{loop_goes_on}
 use Rattle.buffers_range_panel.specs.Ranges.{panel_ranged}

@@ -1,6 +1,5 @@
 -- The invariant: the lines of the first p processors are in range (`loop_goes_on`); zeros come after the P lines.
 use mathlib.Core.Path.{sym, ◌∙◌}
-use mathlib.Core.Bool.{true}
 use Rattle.logic.specs.Test.{all}
 use Rattle.logic.proofs.Loops.{loop_stops, loop_goes_on, loop_ends}
 use Rattle.buffers_range_program.specs.Order.{slot_at}

@@ -1,6 +1,5 @@
 -- The invariant: the first i slots are in range (`loop_goes_on`); zeros come after the C slots.
 use mathlib.Core.Path.{sym, ◌∙◌}
-use mathlib.Core.Bool.{true}
 use Rattle.logic.specs.Test.{all}
 use Rattle.logic.proofs.Loops.{loop_stops, loop_goes_on, loop_ends}
 use Rattle.buffers_range_program.specs.Order.{slots_at}

@@ -3,7 +3,6 @@ use mathlib.Core.Path.{refl, ◌∙◌, ap}
 use native.Mathlib.Omega.{arith}
 use lib.ListN.{set}
 use lib.Seq.{sets}
-use Rattle.charts.specs.Page.{glyph}
 use Rattle.charts.proofs.Writing.{bytes_joined, stored_starts, stored_more, stored_ends}
 use Rattle.charts.proofs.write_glyphs.Goals as goal
 

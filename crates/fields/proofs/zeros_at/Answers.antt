@@ -1,13 +1,11 @@
 -- The invariant: the first k of the fields are 0.
 use Prim.Native.Nat.{◌≤◌, ◌+◌, ◌*◌}
 use mathlib.Core.Path.{sym, ◌∙◌}
-use mathlib.Core.Bool.{true}
 use native.Mathlib.Omega.{arith}
 use lib.ListN.{length}
 use borrow.Author.Tests.{eq-eqb, ne_eqb}
 use Rattle.logic.specs.Test.{all}
 use Rattle.logic.proofs.Tests.{all_more, all_fails}
-use Rattle.fields.specs.Field.{number_at}
 use Rattle.fields.proofs.LowHalf.{field_length}
 use borrow.Author.Rules.{rules}
 use Rattle.fields.proofs.zeros_at.Goals as goal

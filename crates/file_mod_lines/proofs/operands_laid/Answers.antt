@@ -1,7 +1,6 @@
 -- The invariant: the pairs of the operands before operand j are right.
 use Prim.Native.Nat.{◌+◌, ◌*◌}
 use mathlib.Core.Path.{◌≡◌, sym}
-use mathlib.Core.Bool.{true}
 use native.Mathlib.Omega.{arith}
 use Rattle.logic.specs.Test.{all}
 use Rattle.logic.proofs.Tests.{all_more, all_fails}

@@ -1,6 +1,5 @@
 -- The invariant: the operands before operand j are right.
 use mathlib.Core.Path.{sym, ◌∙◌, ap}
-use mathlib.Core.Bool.{true}
 use native.Mathlib.Omega.{arith}
 use borrow.Author.Tests.{not-true}
 use Rattle.logic.specs.Test.{all}

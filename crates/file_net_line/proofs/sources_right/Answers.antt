@@ -1,11 +1,9 @@
 -- An input has no sources to judge (`sources_input`). For a gate the invariant: its first j sources are right.
 use mathlib.Core.Path.{sym, ◌∙◌}
-use mathlib.Core.Bool.{true}
 use native.Mathlib.Omega.{arith}
 use borrow.Author.Tests.{not-true, not-false}
 use Rattle.logic.specs.Test.{all}
 use Rattle.logic.proofs.Tests.{all_more, all_fails, all_ends}
-use Rattle.model.specs.Netlist.{source_right}
 use Rattle.file_net_line.proofs.Layouts.{sources_input, sources_gate}
 use borrow.Author.Rules.{rules}
 use mathlib.Core.Path.{ap}

@@ -1,5 +1,4 @@
 -- The loaded arrays are the graph of the rank-order gates (`graph`), and its ranks are those of the signals (`ranks_exact`).
-use mathlib.Core.Path.{◌∙◌}
 use Rattle.file_net_graph.proofs.Closed.{graph}
 use Rattle.file_net_graph.proofs.Checked.{checked_lines}
 use Rattle.file_net_ranks.proofs.Exact.{ranks_exact}
@@ -16,4 +15,4 @@ pub returns : goal.returns
 returns c =
     ranks_exact _ c.requires.checked.0 _ c.requires.checked.1 _
     (rw (c.load_graph.ensures.follow_after, c.load_graph.ensures.edges_after) at c.rank_all.ensures)
-    (c.ranks-1.given ∙ c.requires.ranks_len)
+    (cc)

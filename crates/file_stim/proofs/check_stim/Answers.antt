@@ -46,12 +46,11 @@ loop-column-preserved c =
     (c.loop-column.invariant.0, fields_go_on c.loop-column.invariant.1 c.loop-column-test.true number, numbers_more c.loop-column.invariant.2 c.loop-column-test.true _ (fields_number c.loop-column.invariant.1 number))
 
 pub lines-preserved : goal.lines-preserved
-lines-preserved c =
-    (
-      c.loop-column.invariant.0 ∙ c.lines.invariant.0,
-      next_before _ _ _ (collected (goal.at.lines-preserved c).Else-not-ends_line),
-      line_passed _ _ _ c.lines.invariant.2 c.lines-test.true (form (goal.at.lines-preserved c).Else-not-ends_line) (judges (goal.at.lines-preserved c).After-judge-judged ∙ c.in_default-judged.is),
-    )
+lines-preserved c = (
+  c.loop-column.invariant.0 ∙ c.lines.invariant.0,
+  next_before _ _ _ (collected (goal.at.lines-preserved c).Else-not-ends_line),
+  line_passed _ _ _ c.lines.invariant.2 c.lines-test.true (form (goal.at.lines-preserved c).Else-not-ends_line) (judges (goal.at.lines-preserved c).After-judge-judged ∙ c.in_default-judged.is),
+)
 
 -- line 65535
 pub returns-after-lines : goal.returns-after-lines

@@ -2,7 +2,6 @@
 use mathlib.Core.Path.{sym, subst}
 use Rattle.gates.specs.Value.{Code}
 use Rattle.gates.proofs.Legal.{translation_code}
-use borrow.Author.Rules.{rules}
 use Rattle.gates.proofs.translate.Goals as goal
 
 pub returns : goal.returns

@@ -8,7 +8,7 @@ use Rattle.machine_slot.proofs.store.Goals as goal
 pub store_received-requires-clause-sender_in_bounds : goal.store_received-requires-clause-sender_in_bounds
 store_received-requires-clause-sender_in_bounds c =
     rw (c.instruction_in-line.ensures, c.requires.memory_len.2)
-          (sender_fits _ _ c.requires.tables c.args.processor c.args.slot.0 c.requires.processor_bound.0 c.requires.processor_bound.1)
+    (sender_fits _ _ c.requires.tables c.args.processor c.args.slot.0 c.requires.processor_bound.0 c.requires.processor_bound.1)
 
 pub returns : goal.returns
 unfolding module_in

@@ -1,6 +1,5 @@
 -- `run_in`: decoded, run and encoded, the panel has the head of the outcome, and the memory its state.
 -- the entry, from where the head was decoded
-use Rattle.model.specs.Session.{run}
 use Rattle.session_calls.proofs.Replies.{writes}
 use Rattle.session_calls.proofs.run_in.Goals as goal
 

@@ -8,5 +8,7 @@ returns-in_default c = record { answer = accepted_bits (files_accepted _ _ c.che
 
 pub returns : goal.returns
 returns c =
-    record { answer = c.refusal_bits.ensures
-    ∙ refused_bits (files_refused _ _ c.check_files.ensures c.in-Refused.is) }
+    record {
+      answer = c.refusal_bits.ensures
+          ∙ refused_bits (files_refused _ _ c.check_files.ensures c.in-Refused.is);
+    }

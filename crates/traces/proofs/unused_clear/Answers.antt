@@ -1,5 +1,4 @@
 -- The invariant: from the count to cycle c no bit is set.
-use mathlib.Core.Bool.{true}
 use Rattle.traces.proofs.Unused.{unused_starts, unused_more, unused_set, unused_ends}
 use native.Mathlib.Omega.{arith}
 use Rattle.traces.proofs.unused_clear.Goals as goal

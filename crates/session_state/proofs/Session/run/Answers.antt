@@ -38,7 +38,7 @@ returns-clause-tells c =
     let l : h.finished + c.args.cycles ≤ 65535 = omega (arith, c.if-count-cycles.false) in
     let e = run_done c.args.panel.now c.args.program.now c.args.memory.now h.finished h.watch c.args.cycles l in
     tells _ _ _ _ _ e (ap (λ (x : ℕ). ran x c.run-ran.result.stopped) c.run-ran.ensures.0 ∙ ap (ran (run_in c.args.panel.now c.args.program.now h.watch c.args.cycles (memory_of c.args.memory.now)).count) c.run-ran.ensures.1)
-          (ap (λ (x : ℕ). h.finished + x) c.run-ran.ensures.0) refl (sym (hands_own c.args.panel.now c.requires.tables.panel_size))
+    (ap (λ (x : ℕ). h.finished + x) c.run-ran.ensures.0) refl (sym (hands_own c.args.panel.now c.requires.tables.panel_size))
 
 pub returns-clause-memory_after : goal.returns-clause-memory_after
 returns-clause-memory_after c =
