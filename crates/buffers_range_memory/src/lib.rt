@@ -11,6 +11,7 @@ ghost use Rattle.buffers_range_memory.specs.Order.{values_in, part_at, parts_at}
 use buffers_memory::{BLANK, MEMORY_PARTS, PART_STRIDE, PROCESSOR_PARTS};
 
 // How many values the part of the memory with this index holds: C in the four parts of P processors, and none elsewhere.
+#[tactic(auto, using(crate::proofs::Values::no_processor, crate::proofs::Values::no_part, crate::proofs::Values::module_part))]
 fn values_in(index: usize, processors: u8, slots: u16) -> usize
     requires { (index < memory_parts) × (slots ≤ 256) }
     ensures { (result ≡ values_in processors slots index) × (result ≤ 256) }

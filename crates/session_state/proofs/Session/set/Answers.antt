@@ -1,12 +1,12 @@
 -- `set`: 41, 42 and the setting, each as the model has it.
-use mathlib.Core.Path.{refl, sym, ◌∙◌}
+use mathlib.Core.Path.{◌≡◌, refl, sym, ◌∙◌}
 use Rattle.session_state.specs.Carried.{head_of}
 use Rattle.logic.proofs.Judged.{passes}
 use Rattle.session_state.proofs.Commands.{signal_low, signal_high, input_signal, set_41, set_42, set_done, tells}
 use Rattle.buffers_tables.proofs.Hands.{hands_own, hands_replaced}
 use native.Mathlib.Omega.{arith}
 use mathlib.Core.Path.{ap}
-use mathlib.Core.Bool.{not}
+use mathlib.Core.Bool.{true, not}
 use Rattle.session_state.proofs.Session.set.Goals as goal
 
 pub returns-then-not-known : goal.returns-then-not-known
@@ -15,7 +15,8 @@ returns-then-not-known c =
 
 pub returns-then-value-gt3 : goal.returns-then-value-gt3
 returns-then-value-gt3 c =
-    λ program memory. set_42 c.args.panel.now program memory (head_of c.args.self c.args.panel.now) c.args.input c.args.value _ c.is_input-known.ensures (ap not c.if-not-known.false) c.if-value-gt3.true _ refl refl refl (sym (hands_own _ c.requires.0))
+    let there : c.is_input-known.result ≡ true = cc in
+    λ program memory. set_42 c.args.panel.now program memory (head_of c.args.self c.args.panel.now) c.args.input c.args.value _ c.is_input-known.ensures (ap not there) c.if-value-gt3.true _ refl refl refl (sym (hands_own _ c.requires.0))
 
 pub set_hand-requires : goal.set_hand-requires
 set_hand-requires c =
