@@ -6,6 +6,7 @@ usage: tests/lib/building.py archive|program     prints its path, once it is bui
 `rt` builds what it proves in crates/NAME/out. `rt ci` leaves there the program, and the libraries as it proved them, but no
 archive, and no mark by which a later `rt lib` would take these libraries as they stand: it would prove them all once more.
 """
+import contextlib
 import os
 import shutil
 import subprocess
@@ -67,6 +68,26 @@ def kit():
     return rtlib
 
 
+@contextlib.contextmanager
+def marks_kept(crates):
+    """A crate's mark holds those of the crates below it. Kept, each is made once, and not once for each way down to it."""
+    whole = {type(crate): type(crate).stamp for crate in crates}
+    made = {}
+
+    def stamp(crate):
+        if crate.folder not in made:
+            made[crate.folder] = whole[type(crate)](crate)
+        return made[crate.folder]
+
+    for kind in whole:
+        kind.stamp = stamp
+    try:
+        yield
+    finally:
+        for kind, own in whole.items():
+            kind.stamp = own
+
+
 def second_root(folder):
     """Makes the folder one in which `rt` finds the sources and the proved libraries, and builds in an out/ of its own. It finds
     those that `rt ci` left as if `rt lib` had built them: they fit one another."""
@@ -81,8 +102,9 @@ def second_root(folder):
         if is_library and (crate / "out" / "rlib").is_dir():
             shutil.copytree(crate / "out" / "rlib", copy / "out" / "rlib", copy_function=link_or_copy)
     if vouched:
-        for crate in kit().crates_below(str(folder.resolve())):
-            if crate.makes_rlib():
+        marked = [crate for crate in kit().crates_below(str(folder.resolve())) if crate.makes_rlib()]
+        with marks_kept(marked):
+            for crate in marked:
                 Path(crate.folder, "out", "rlib", "stamp").write_text(crate.stamp(), encoding="utf-8")
     return folder
 
