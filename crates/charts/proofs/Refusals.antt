@@ -52,16 +52,16 @@ module _ (signals values page : List ℕ) where
   unfolding lent_check
   lent_right e = lengths (unless_true _ 40 0 e)
 
-module _ (count firstCycle cycles : ℕ) where
+module _ (count first_cycle cycles : ℕ) where
   -- counts and cycles that a page can carry
   pub record ChartCounts : Type 0 where
     pub count_low : 1 ≤ count
     pub count_high : count ≤ page_signals
     pub cycles_low : 1 ≤ cycles
     pub cycles_high : cycles ≤ page_cycles
-    pub last_high : last_cycle firstCycle cycles ≤ 65535
+    pub last_high : last_cycle first_cycle cycles ≤ 65535
 
-  counted : on_page count firstCycle cycles ≡ true → ChartCounts
+  counted : on_page count first_cycle cycles ≡ true → ChartCounts
   unfolding on_page
   counted e =
       let most = and_right _ _ e in
@@ -72,23 +72,23 @@ module _ (count firstCycle cycles : ℕ) where
         count_high = leb-true count page_signals (and_left _ _ most);
         cycles_low = leb-true 1 cycles (and_left _ _ some);
         cycles_high = leb-true cycles page_cycles (and_left _ _ rest);
-        last_high = leb-true (last_cycle firstCycle cycles) 65535 (and_right _ _ rest);
+        last_high = leb-true (last_cycle first_cycle cycles) 65535 (and_right _ _ rest);
       }
 
-  pub counts_wrong : (ChartCounts → ⊥) → counts_check count firstCycle cycles ≡ fail 46 0
+  pub counts_wrong : (ChartCounts → ⊥) → counts_check count first_cycle cycles ≡ fail 46 0
   unfolding counts_check
   counts_wrong d = cannot _ 46 0 (λ e. d (counted e))
 
-  pub counts_pass : ChartCounts → counts_check count firstCycle cycles ≡ pass
+  pub counts_pass : ChartCounts → counts_check count first_cycle cycles ≡ pass
   unfolding counts_check on_page
   counts_pass r =
       unless_pass _ 46 0
       (and_true _ _ (le-leb 1 count r.count_low)
       (and_true _ _ (le-leb count page_signals r.count_high)
       (and_true _ _ (le-leb 1 cycles r.cycles_low)
-      (and_true _ _ (le-leb cycles page_cycles r.cycles_high) (le-leb (last_cycle firstCycle cycles) 65535 r.last_high)))))
+      (and_true _ _ (le-leb cycles page_cycles r.cycles_high) (le-leb (last_cycle first_cycle cycles) 65535 r.last_high)))))
 
-  pub counts_right : counts_check count firstCycle cycles ≡ pass → ChartCounts
+  pub counts_right : counts_check count first_cycle cycles ≡ pass → ChartCounts
   unfolding counts_check
   counts_right e = counted (unless_true _ 46 0 e)
 
@@ -121,11 +121,11 @@ module _ (values : List ℕ) (cycles k c : ℕ) (before : first_below c (value_c
       (record { at = c; low = low; fails = recorded_above (charted values k c) above; before = below_pass c (value_check values k) before })
 
 -- what a call that is not refused has been lent
-module _ (signals values page : List ℕ) (count firstCycle cycles : ℕ) (e : chart_check signals values page count firstCycle cycles ≡ pass) where
+module _ (signals values page : List ℕ) (count first_cycle cycles : ℕ) (e : chart_check signals values page count first_cycle cycles ≡ pass) where
   pub chart_lent_lem : ChartSizes signals values page
   unfolding chart_check
   chart_lent_lem = lent_right signals values page (first_left _ _ e)
 
-  pub chart_counts : ChartCounts count firstCycle cycles
+  pub chart_counts : ChartCounts count first_cycle cycles
   unfolding chart_check
-  chart_counts = counts_right count firstCycle cycles (first_left _ _ (first_right _ _ e))
+  chart_counts = counts_right count first_cycle cycles (first_left _ _ (first_right _ _ e))

@@ -143,26 +143,26 @@ module _ (signals values : List ℕ) (cycles : ℕ) (few : cycles ≤ page_cycle
       (e ∙ ap (λ (s : ℕ). sets out (line_bytes * (k + 1)) (row_text s cycles (charted values k))) is)
 
 -- the whole page
-module _ (signals values : List ℕ) (count firstCycle cycles : ℕ) (few : cycles ≤ page_cycles) where
+module _ (signals values : List ℕ) (count first_cycle cycles : ℕ) (few : cycles ≤ page_cycles) where
   abbrev rows_text : List ℕ
   rows_text = joined count (chart_row signals values cycles)
 
-  pub length_page : length (page_text signals values count firstCycle cycles) ≡ line_bytes * (count + 1)
+  pub length_page : length (page_text signals values count first_cycle cycles) ≡ line_bytes * (count + 1)
   unfolding page_text
   length_page =
-      length-append (head_text firstCycle (last_cycle firstCycle cycles)) rows_text
-      ∙ omega (arith, length_head firstCycle (last_cycle firstCycle cycles), length_rows signals values cycles few count)
+      length-append (head_text first_cycle (last_cycle first_cycle cycles)) rows_text
+      ∙ omega (arith, length_head first_cycle (last_cycle first_cycle cycles), length_rows signals values cycles few count)
 
   module _ (l head page : List ℕ) where
-    pub page_stored : line_bytes * (count + 1) ≤ length l → (last : ℕ) → last ≡ last_cycle firstCycle cycles
-        → head ≡ sets l 0 (head_text firstCycle last) → page ≡ sets head line_bytes rows_text
-        → page ≡ printed_on l (page_text signals values count firstCycle cycles)
+    pub page_stored : line_bytes * (count + 1) ≤ length l → (last : ℕ) → last ≡ last_cycle first_cycle cycles
+        → head ≡ sets l 0 (head_text first_cycle last) → page ≡ sets head line_bytes rows_text
+        → page ≡ printed_on l (page_text signals values count first_cycle cycles)
     unfolding page_text printed_on
     page_stored room last is h p =
-        let text : List ℕ = head_text firstCycle (last_cycle firstCycle cycles) ++ rows_text in
+        let text : List ℕ = head_text first_cycle (last_cycle first_cycle cycles) ++ rows_text in
         let after : 0 + length text ≡ length text = omega arith in
-        joins l (head_text firstCycle (last_cycle firstCycle cycles)) rows_text 0 line_bytes p
-        (h ∙ ap (λ (x : ℕ). sets l 0 (head_text firstCycle x)) is)
-        (omega (arith, length_head firstCycle (last_cycle firstCycle cycles)))
+        joins l (head_text first_cycle (last_cycle first_cycle cycles)) rows_text 0 line_bytes p
+        (h ∙ ap (λ (x : ℕ). sets l 0 (head_text first_cycle x)) is)
+        (omega (arith, length_head first_cycle (last_cycle first_cycle cycles)))
         ∙ sets-eq text l 0 (omega (arith, length_page))
         ∙ ap (λ (m : ℕ). text ++ drop m l) after

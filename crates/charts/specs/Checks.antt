@@ -18,11 +18,11 @@ lent_check signals values page = unless (same_lengths (chart_lent signals values
 
 -- no "signal or cycle count outside these ends or a last cycle past 65535"
 unfoldable pub on_page : ℕ → ℕ → ℕ → Bool
-on_page count firstCycle cycles =
-    leb 1 count and leb count page_signals and leb 1 cycles and leb cycles page_cycles and leb (last_cycle firstCycle cycles) 65535
+on_page count first_cycle cycles =
+    leb 1 count and leb count page_signals and leb 1 cycles and leb cycles page_cycles and leb (last_cycle first_cycle cycles) 65535
 
 unfoldable pub counts_check : ℕ → ℕ → ℕ → Check
-counts_check count firstCycle cycles = unless (on_page count firstCycle cycles) 46 0
+counts_check count first_cycle cycles = unless (on_page count first_cycle cycles) 46 0
 
 -- "first chosen signal that is 0 or above 4096"
 unfoldable pub signal_check : List ℕ → ℕ → Check
@@ -42,7 +42,7 @@ unfoldable pub rows_check : List ℕ → ℕ → ℕ → Check
 rows_check values count cycles = first_below count (row_check values cycles)
 
 unfoldable pub chart_check : List ℕ → List ℕ → List ℕ → ℕ → ℕ → ℕ → Check
-chart_check signals values page count firstCycle cycles =
+chart_check signals values page count first_cycle cycles =
     first (lent_check signals values page)
-    (first (counts_check count firstCycle cycles)
+    (first (counts_check count first_cycle cycles)
     (first (signals_check signals count) (rows_check values count cycles)))

@@ -57,4 +57,4 @@ glyph value =
 
 -- the last of some cycles, the first being given
 abbrev pub last_cycle : ℕ → ℕ → ℕ
-last_cycle firstCycle cycles = firstCycle + cycles - 1
+last_cycle first_cycle cycles = first_cycle + cycles - 1

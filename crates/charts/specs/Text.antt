@@ -12,7 +12,7 @@ spaces n = listed n (λ k. space)
 
 -- "The first line has first and last cycle, six columns each, then spaces."
 unfoldable pub head_text : ℕ → ℕ → List ℕ
-head_text firstCycle last = field_text firstCycle ++ field_text last ++ spaces (line_columns - cycles_columns) ++ newline ∷ []
+head_text first_cycle last = field_text first_cycle ++ field_text last ++ spaces (line_columns - cycles_columns) ++ newline ∷ []
 
 -- "its number in six columns, two spaces, then one of 0 1 U Z for each cycle, spaces to column 80"
 unfoldable pub row_text : ℕ → ℕ → (ℕ → ℕ) → List ℕ
@@ -25,8 +25,8 @@ chart_row signals values cycles k = row_text (chosen signals k) cycles (charted 
 
 -- "Each further line is one chosen signal, in the order chosen"
 unfoldable pub page_text : List ℕ → List ℕ → ℕ → ℕ → ℕ → List ℕ
-page_text signals values count firstCycle cycles =
-    head_text firstCycle (last_cycle firstCycle cycles) ++ joined count (chart_row signals values cycles)
+page_text signals values count first_cycle cycles =
+    head_text first_cycle (last_cycle first_cycle cycles) ++ joined count (chart_row signals values cycles)
 
 -- a page with a text in its first bytes: "Bytes of the page buffer after the last line keep their values."
 unfoldable pub printed_on : List ℕ → List ℕ → List ℕ

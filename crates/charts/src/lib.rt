@@ -9,7 +9,7 @@ ghost use Rattle.logic.specs.Listed.{listed};
 ghost use Rattle.model.specs.Listing.{joined};
 ghost use Rattle.session_answers.specs.Answers.{check_bits};
 ghost use Rattle.session_answers.specs.Left.{left_after};
-ghost use Rattle.charts.specs.Page.{page_signals, page_cycles, line_bytes, signals_length, record_length, page_length, glyph as glyphOf, last_cycle};
+ghost use Rattle.charts.specs.Page.{page_signals, page_cycles, line_bytes, signals_length, record_length, page_length, glyph as glyph_of, last_cycle};
 ghost use Rattle.charts.specs.Text.{spaces, head_text, row_text, chart_row, page_text, printed_on};
 ghost use Rattle.charts.specs.Checks.{lent_check, counts_check, signals_check, rows_check, chart_check};
 ghost use Rattle.charts.specs.Answer.{chart_refusal, ChartAnswers};
@@ -183,7 +183,7 @@ fn check_chart(
 
 // The byte that a value is printed as: 0, 1, U or Z.
 fn glyph(value: u8) -> u8
-    ensures { result ≡ glyphOf value }
+    ensures { result ≡ glyph_of value }
 {
     if value == 0 {
         return 48;
@@ -212,7 +212,7 @@ fn write_spaces(page: &mut [u8], at: usize, count: usize)
 // The values of some cycles, the first of them at `from`, written at a place.
 fn write_glyphs(page: &mut [u8], at: usize, values: &[u8], from: usize, cycles: usize)
     requires { (at + cycles ≤ length page.old) × (from + cycles ≤ length values.now) }
-    ensures { page.new ≡ sets page.old at (listed cycles (λ c. glyphOf (get_or values.now (from + c) 0))) }
+    ensures { page.new ≡ sets page.old at (listed cycles (λ c. glyph_of (get_or values.now (from + c) 0))) }
 {
     let mut c: usize = 0;
     while c < cycles {

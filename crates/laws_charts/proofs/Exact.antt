@@ -23,8 +23,8 @@ column_in_lem page place i l = sym (get_or-take 6 (drop place page) i 0 l ∙ ge
 both : {x y z : ℕ} → x ≡ z → y ≡ z → x ≡ y
 both e f = e ∙ sym f
 
-module _ {signals values old p q : List ℕ} {count firstCycle cycles : ℕ} (a : PageOf signals values old count firstCycle cycles p)
-    (b : PageOf signals values old count firstCycle cycles q) where
+module _ {signals values old p q : List ℕ} {count first_cycle cycles : ℕ} (a : PageOf signals values old count first_cycle cycles p)
+    (b : PageOf signals values old count first_cycle cycles q) where
   -- the same columns where both show one number
   field_same : (place i n : ℕ) → ShowsNumber p place n → ShowsNumber q place n → i < 6 → get_or p (place + i) 0 ≡ get_or q (place + i) 0
   field_same place i n s t l =
@@ -34,7 +34,7 @@ module _ {signals values old p q : List ℕ} {count firstCycle cycles : ℕ} (a 
   on_first i l = go (dec_lt i 6) (dec_lt i cycles_columns)
     where
       go : Dec (i < 6) → Dec (i < cycles_columns) → byte_at p 0 i ≡ byte_at q 0 i
-      go (yes x) y = field_same 0 i firstCycle a.shows_first b.shows_first x
+      go (yes x) y = field_same 0 i first_cycle a.shows_first b.shows_first x
       go (no x) (yes y) =
           let place : column_place 0 i ≡ 6 + (i - 6) = omega arith in
           ap (λ (m : ℕ). get_or p m 0) place

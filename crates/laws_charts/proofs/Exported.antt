@@ -1,4 +1,4 @@
--- The contract of the function that C calls is `Charts`: it asks nothing, and whatever is told of the bits and of the page at the return
+-- The contract of the function that cavundir_panel_c exports for C is `Charts`: it asks nothing, and whatever is told of the bits and of the page at the return
 -- is what this says. So the theorems of `Pages` are about this function, and the claim holds of it.
 use Prim.Native.Nat.{ℕ}
 use contract.Lifetimes.{Lfts}

@@ -146,9 +146,9 @@ joined_at f each (suc n) k i h l = go (dec_lt k n) (λ b. joined_at f each n k i
         at_second (joined n f) (f n) (line_bytes * k + i) i (omega (arith, length_joined line_bytes f each n)) ∙ ap (λ (m : ℕ). get_or (f m) i 0) (sym last)
 
 -- a page
-module _ (signals values old : List ℕ) (count firstCycle cycles : ℕ) (few : cycles ≤ page_cycles) where
+module _ (signals values old : List ℕ) (count first_cycle cycles : ℕ) (few : cycles ≤ page_cycles) where
   abbrev text : List ℕ
-  text = page_text signals values count firstCycle cycles
+  text = page_text signals values count first_cycle cycles
 
   abbrev page : List ℕ
   page = printed_on old text
@@ -156,33 +156,33 @@ module _ (signals values old : List ℕ) (count firstCycle cycles : ℕ) (few : 
   pub page_size : line_bytes * suc count ≤ length old → length page ≡ length old
   unfolding printed_on
   page_size room =
-      length-append text (drop (length text) old) ∙ omega (arith, length-drop (length text) old, length_page signals values count firstCycle cycles few)
+      length-append text (drop (length text) old) ∙ omega (arith, length-drop (length text) old, length_page signals values count first_cycle cycles few)
 
   page_text_lem : (i : ℕ) → i < line_bytes * suc count → get_or page i 0 ≡ get_or text i 0
   unfolding printed_on
-  page_text_lem i l = at_first text (drop (length text) old) i (omega (arith, length_page signals values count firstCycle cycles few))
+  page_text_lem i l = at_first text (drop (length text) old) i (omega (arith, length_page signals values count first_cycle cycles few))
 
-  pub page_head : (i : ℕ) → i < line_bytes → get_or page (line_bytes * 0 + i) 0 ≡ get_or (head_text firstCycle (last_cycle firstCycle cycles)) i 0
+  pub page_head : (i : ℕ) → i < line_bytes → get_or page (line_bytes * 0 + i) 0 ≡ get_or (head_text first_cycle (last_cycle first_cycle cycles)) i 0
   unfolding page_text
   page_head i l =
       let place : line_bytes * 0 + i ≡ i = omega arith in
       ap (λ (m : ℕ). get_or page m 0) place
       ∙ page_text_lem i (omega arith)
-      ∙ at_first (head_text firstCycle (last_cycle firstCycle cycles)) (joined count (chart_row signals values cycles)) i
-      (omega (arith, length_head firstCycle (last_cycle firstCycle cycles)))
+      ∙ at_first (head_text first_cycle (last_cycle first_cycle cycles)) (joined count (chart_row signals values cycles)) i
+      (omega (arith, length_head first_cycle (last_cycle first_cycle cycles)))
 
   pub page_row : (k i : ℕ) → k < count → i < line_bytes → get_or page (line_bytes * suc k + i) 0 ≡ get_or (chart_row signals values cycles k) i 0
   unfolding page_text
   page_row k i h l =
       page_text_lem (line_bytes * suc k + i) (omega arith)
-      ∙ at_second (head_text firstCycle (last_cycle firstCycle cycles)) (joined count (chart_row signals values cycles)) (line_bytes * suc k + i) (line_bytes * k + i)
-      (omega (arith, length_head firstCycle (last_cycle firstCycle cycles)))
+      ∙ at_second (head_text first_cycle (last_cycle first_cycle cycles)) (joined count (chart_row signals values cycles)) (line_bytes * suc k + i) (line_bytes * k + i)
+      (omega (arith, length_head first_cycle (last_cycle first_cycle cycles)))
       ∙ joined_at (chart_row signals values cycles) (λ j. length_row (chosen signals j) cycles (charted values j) few) count k i h l
 
   pub page_others : (i : ℕ) → line_bytes * suc count ≤ i → get_or page i 0 ≡ get_or old i 0
   unfolding printed_on
   page_others i l =
-      let long = length_page signals values count firstCycle cycles few in
+      let long = length_page signals values count first_cycle cycles few in
       let rest = i - length text in
       let place : i ≡ length text + rest = omega (arith, long) in
       at_second text (drop (length text) old) i rest place

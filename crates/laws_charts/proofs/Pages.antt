@@ -57,45 +57,45 @@ pub glyph_one_to_one : (v w : ℕ) → v ≤ 3 → w ≤ 3 → glyph v ≡ glyph
 glyph_one_to_one v w h l e = sym (value_back_lem v h) ∙ ap value_of e ∙ value_back_lem w l
 
 -- a page that was printed
-module _ (signals values old : List ℕ) (count firstCycle cycles : ℕ) (lent : ChartSizes signals values old) (counts : ChartCounts count firstCycle cycles)
+module _ (signals values old : List ℕ) (count first_cycle cycles : ℕ) (lent : ChartSizes signals values old) (counts : ChartCounts count first_cycle cycles)
     (high : (k : ℕ) → k < count → chosen signals k ≤ 4096) where
   abbrev page : List ℕ
-  page = printed_on old (page_text signals values count firstCycle cycles)
+  page = printed_on old (page_text signals values count first_cycle cycles)
 
   abbrev last : ℕ
-  last = last_cycle firstCycle cycles
+  last = last_cycle first_cycle cycles
 
   few : cycles ≤ page_cycles
   few = counts.cycles_high
 
   size : length page ≡ page_length
-  size = page_size signals values old count firstCycle cycles few (omega (arith, lent.page_size, counts.count_high)) ∙ lent.page_size
+  size = page_size signals values old count first_cycle cycles few (omega (arith, lent.page_size, counts.count_high)) ∙ lent.page_size
 
-  on_head : (i : ℕ) → i < line_bytes → byte_at page 0 i ≡ get_or (head_text firstCycle last) i 0
-  on_head = page_head signals values old count firstCycle cycles few
+  on_head : (i : ℕ) → i < line_bytes → byte_at page 0 i ≡ get_or (head_text first_cycle last) i 0
+  on_head = page_head signals values old count first_cycle cycles few
 
   on_row : (k i : ℕ) → k < count → i < line_bytes → byte_at page (suc k) i ≡ get_or (chart_row signals values cycles k) i 0
-  on_row = page_row signals values old count firstCycle cycles few
+  on_row = page_row signals values old count first_cycle cycles few
 
   line_ends : (line : ℕ) → line ≤ count → byte_at page line line_columns ≡ newline
-  line_ends zero h = on_head line_columns (omega arith) ∙ head_end firstCycle last
+  line_ends zero h = on_head line_columns (omega arith) ∙ head_end first_cycle last
   line_ends (suc k) h = on_row k line_columns (omega arith) (omega arith) ∙ row_end (chosen signals k) cycles (charted values k) few
 
   line_columns_lem : (line : ℕ) → line ≤ count → (column : ℕ) → column < line_columns → byte_at page line column ≡ newline → ⊥
-  line_columns_lem zero h i l e = omega (arith, on_head i (omega arith), head_printed firstCycle last i l, e)
+  line_columns_lem zero h i l e = omega (arith, on_head i (omega arith), head_printed first_cycle last i l, e)
   line_columns_lem (suc k) h i l e = omega (arith, on_row k i (omega arith) (omega arith), row_printed (chosen signals k) cycles (charted values k) few i l, e)
 
-  shows_first : ShowsNumber page (column_place 0 0) firstCycle
+  shows_first : ShowsNumber page (column_place 0 0) first_cycle
   shows_first =
-      shows_text page (column_place 0 0) firstCycle (omega (arith, size)) (omega (arith, counts.cycles_low, counts.last_high))
-      (λ i l. on_head i (omega arith) ∙ head_first firstCycle last i l)
+      shows_text page (column_place 0 0) first_cycle (omega (arith, size)) (omega (arith, counts.cycles_low, counts.last_high))
+      (λ i l. on_head i (omega arith) ∙ head_first first_cycle last i l)
 
   shows_last : ShowsNumber page (column_place 0 number_columns) last
   shows_last =
       shows_text page (column_place 0 number_columns) last (omega (arith, size)) counts.last_high
       (λ i l.
       let place : column_place 0 number_columns + i ≡ column_place 0 (6 + i) = omega arith in
-      ap (λ (m : ℕ). get_or page m 0) place ∙ on_head (6 + i) (omega arith) ∙ head_last firstCycle last i l)
+      ap (λ (m : ℕ). get_or page m 0) place ∙ on_head (6 + i) (omega arith) ∙ head_last first_cycle last i l)
 
   shows_signal : (k : ℕ) → k < count → ShowsNumber page (column_place (suc k) 0) (chosen signals k)
   shows_signal k h =
@@ -104,7 +104,7 @@ module _ (signals values old : List ℕ) (count firstCycle cycles : ℕ) (lent :
       let place : column_place (suc k) 0 + i ≡ column_place (suc k) i = omega arith in
       ap (λ (m : ℕ). get_or page m 0) place ∙ on_row k i h (omega arith) ∙ row_signal (chosen signals k) cycles (charted values k) few i l)
 
-  page_of : PageOf signals values old count firstCycle cycles page
+  page_of : PageOf signals values old count first_cycle cycles page
   page_of =
       record {
         size = size;
@@ -112,28 +112,28 @@ module _ (signals values old : List ℕ) (count firstCycle cycles : ℕ) (lent :
         columns = line_columns_lem;
         shows_first = shows_first;
         shows_last = shows_last;
-        first_spaces = λ i low l. on_head i (omega arith) ∙ head_spaces firstCycle last i low l;
+        first_spaces = λ i low l. on_head i (omega arith) ∙ head_spaces first_cycle last i low l;
         shows_signal = shows_signal;
         two_spaces = λ k h i low l. on_row k i h (omega arith) ∙ row_two_spaces (chosen signals k) cycles (charted values k) few i low l;
         values_shown = λ k h c l. on_row k (value_column + c) h (omega (arith, few)) ∙ row_glyph (chosen signals k) cycles (charted values k) few c l;
         last_spaces = λ k h i low l. on_row k i h (omega arith) ∙ row_spaces (chosen signals k) cycles (charted values k) few i low l;
-        others = page_others signals values old count firstCycle cycles few;
+        others = page_others signals values old count first_cycle cycles few;
       }
 
-module _ {signals values page left : List ℕ} {count firstCycle cycles bits : ℕ} (charts : Charts signals values page count firstCycle cycles bits left) where
+module _ {signals values page left : List ℕ} {count first_cycle cycles bits : ℕ} (charts : Charts signals values page count first_cycle cycles bits left) where
   -- a refused call leaves the page as it was
   pub chart_refused : (bits ≡ 0 → ⊥) → left ≡ page
   chart_refused some = charts.leaves ∙ left_refused _ _ page (λ p. some (charts.answer ∙ passed_done _ p))
 
   -- one that is not refused leaves a page on which a reader finds what the request says
-  pub chart_printed : bits ≡ 0 → PageOf signals values page count firstCycle cycles left
+  pub chart_printed : bits ≡ 0 → PageOf signals values page count first_cycle cycles left
   chart_printed done =
-      let accepted = done_passed _ (chart_numbered signals values page count firstCycle cycles) (sym charts.answer ∙ done) in
+      let accepted = done_passed _ (chart_numbered signals values page count first_cycle cycles) (sym charts.answer ∙ done) in
       let is = charts.leaves ∙ left_done _ _ page accepted in
-      subst (PageOf signals values page count firstCycle cycles) (sym is)
-      (page_of signals values page count firstCycle cycles (chart_lent_lem signals values page count firstCycle cycles accepted)
-      (chart_counts signals values page count firstCycle cycles accepted)
-      (signals_high signals values page count firstCycle cycles accepted))
+      subst (PageOf signals values page count first_cycle cycles) (sym is)
+      (page_of signals values page count first_cycle cycles (chart_lent_lem signals values page count first_cycle cycles accepted)
+      (chart_counts signals values page count first_cycle cycles accepted)
+      (signals_high signals values page count first_cycle cycles accepted))
 
-  pub chart_claim : ChartClaim signals values page count firstCycle cycles bits left
+  pub chart_claim : ChartClaim signals values page count first_cycle cycles bits left
   chart_claim = record { answer = charts.answer; refused = chart_refused; printed = chart_printed }

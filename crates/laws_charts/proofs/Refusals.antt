@@ -11,8 +11,8 @@ use Rattle.session_answers.proofs.Calls.{Numbered, unless_numbered, first_number
 use Rattle.charts.specs.Page.{chosen, charted}
 use Rattle.charts.specs.Checks.{lent_check, counts_check, signal_check, signals_check, value_check, row_check, rows_check, chart_check}
 
-module _ (signals values page : List ℕ) (count firstCycle cycles : ℕ) where
-  pub chart_numbered : Numbered (chart_check signals values page count firstCycle cycles)
+module _ (signals values page : List ℕ) (count first_cycle cycles : ℕ) where
+  pub chart_numbered : Numbered (chart_check signals values page count first_cycle cycles)
   unfolding chart_check lent_check counts_check signals_check signal_check rows_check row_check value_check
   chart_numbered =
       first_numbered _ _ (unless_numbered _ 40 0 (omega arith))
@@ -21,7 +21,7 @@ module _ (signals values page : List ℕ) (count firstCycle cycles : ℕ) where
       (below_numbered count _ (λ k. below_numbered cycles _ (λ c. recorded_numbered (charted values k c))))))
 
   -- the signals of a page that is printed
-  pub signals_high : chart_check signals values page count firstCycle cycles ≡ pass → (k : ℕ) → k < count → chosen signals k ≤ 4096
+  pub signals_high : chart_check signals values page count first_cycle cycles ≡ pass → (k : ℕ) → k < count → chosen signals k ≤ 4096
   unfolding chart_check signals_check signal_check
   signals_high e k h =
       leb-true (chosen signals k) 4096

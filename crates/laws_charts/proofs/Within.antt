@@ -31,32 +31,32 @@ joined_same (suc n) f g h = ap₂ (λ (a b : List ℕ). a ++ b) (joined_same n f
 module _ (signals values signals' values' : List ℕ) (count cycles : ℕ) (same : (k : ℕ) → k < count → chosen signals k ≡ chosen signals' k)
     (equal : (k : ℕ) → k < count → (c : ℕ) → c < cycles → charted values k c ≡ charted values' k c) where
   -- are judged alike
-  check_within : (page : List ℕ) (firstCycle : ℕ) → length signals ≡ length signals' → length values ≡ length values'
-      → chart_check signals values page count firstCycle cycles ≡ chart_check signals' values' page count firstCycle cycles
+  check_within : (page : List ℕ) (first_cycle : ℕ) → length signals ≡ length signals' → length values ≡ length values'
+      → chart_check signals values page count first_cycle cycles ≡ chart_check signals' values' page count first_cycle cycles
   unfolding chart_check lent_check signals_check signal_check rows_check row_check value_check
-  check_within page firstCycle long wide =
+  check_within page first_cycle long wide =
       ap₂ first
       (ap₂ (λ (m n : ℕ). unless (same_lengths (m ∷ n ∷ length page ∷ []) chart_fixed) 40 0) long wide)
-      (ap (first (counts_check count firstCycle cycles))
+      (ap (first (counts_check count first_cycle cycles))
       (ap₂ first
       (below_same count _ _ (λ k h. ap (λ (s : ℕ). unless (leb 1 s and leb s 4096) 41 s) (same k h)))
       (below_same count _ _ (λ k h. below_same cycles _ _ (λ c l. ap recorded_check (equal k h c l))))))
 
   -- and printed alike
-  text_within : (firstCycle : ℕ) → page_text signals values count firstCycle cycles ≡ page_text signals' values' count firstCycle cycles
+  text_within : (first_cycle : ℕ) → page_text signals values count first_cycle cycles ≡ page_text signals' values' count first_cycle cycles
   unfolding page_text row_text
-  text_within firstCycle =
-      ap (λ (rows : List ℕ). head_text firstCycle (last_cycle firstCycle cycles) ++ rows)
+  text_within first_cycle =
+      ap (λ (rows : List ℕ). head_text first_cycle (last_cycle first_cycle cycles) ++ rows)
       (joined_same count (chart_row signals values cycles) (chart_row signals' values' cycles)
       (λ k h.
       ap₂ (λ (s : ℕ) (shown : List ℕ). field_text s ++ spaces 2 ++ shown ++ spaces (line_columns - (value_column + cycles)) ++ newline ∷ []) (same k h)
       (listed_same cycles _ _ (λ c l. ap glyph (equal k h c l)))))
 
-  pub chart_reads_within : {page left left' : List ℕ} {firstCycle bits bits' : ℕ} → length signals ≡ length signals' → length values ≡ length values'
-      → Charts signals values page count firstCycle cycles bits left → Charts signals' values' page count firstCycle cycles bits' left'
+  pub chart_reads_within : {page left left' : List ℕ} {first_cycle bits bits' : ℕ} → length signals ≡ length signals' → length values ≡ length values'
+      → Charts signals values page count first_cycle cycles bits left → Charts signals' values' page count first_cycle cycles bits' left'
       → (bits ≡ bits') × (left ≡ left')
-  chart_reads_within {page} {firstCycle = firstCycle} long wide one other =
-      let check = check_within page firstCycle long wide in (
+  chart_reads_within {page} {first_cycle = first_cycle} long wide one other =
+      let check = check_within page first_cycle long wide in (
         one.answer ∙ ap check_bits check ∙ sym other.answer,
-        one.leaves ∙ ap₂ (λ (k : Check) (t : List ℕ). left_after k (printed_on page t) page) check (text_within firstCycle) ∙ sym other.leaves,
+        one.leaves ∙ ap₂ (λ (k : Check) (t : List ℕ). left_after k (printed_on page t) page) check (text_within first_cycle) ∙ sym other.leaves,
       )

@@ -6,7 +6,7 @@ use Rattle.charts.specs.Text.{page_text, printed_on}
 use Rattle.charts.specs.Checks.{chart_check}
 
 -- a call of cavundir_chart that met its contract
-pub record Charts (signals values page : List ℕ) (count firstCycle cycles bits : ℕ) (left : List ℕ) : Type 0 where
-  pub answer : bits ≡ check_bits (chart_check signals values page count firstCycle cycles)
+pub record Charts (signals values page : List ℕ) (count first_cycle cycles bits : ℕ) (left : List ℕ) : Type 0 where
+  pub answer : bits ≡ check_bits (chart_check signals values page count first_cycle cycles)
   pub leaves : left
-      ≡ left_after (chart_check signals values page count firstCycle cycles) (printed_on page (page_text signals values count firstCycle cycles)) page
+      ≡ left_after (chart_check signals values page count first_cycle cycles) (printed_on page (page_text signals values count first_cycle cycles)) page

@@ -17,14 +17,14 @@ pub record ShowsNumber (page : List ℕ) (place number : ℕ) : Type 0 where
   pub form : is_field_at page place ≡ true
   pub is : number_at page place ≡ number
 
-pub record PageOf (signals values old : List ℕ) (count firstCycle cycles : ℕ) (page : List ℕ) : Type 0 where
+pub record PageOf (signals values old : List ℕ) (count first_cycle cycles : ℕ) (page : List ℕ) : Type 0 where
   pub size : length page ≡ page_length
   -- "Every line has exactly 80 columns and a line end."
   pub ends : (line : ℕ) → line ≤ count → byte_at page line line_columns ≡ newline
   pub columns : (line : ℕ) → line ≤ count → (column : ℕ) → column < line_columns → byte_at page line column ≡ newline → ⊥
   -- "The first line has first and last cycle, six columns each, then spaces."
-  pub shows_first : ShowsNumber page (column_place 0 0) firstCycle
-  pub shows_last : ShowsNumber page (column_place 0 number_columns) (last_cycle firstCycle cycles)
+  pub shows_first : ShowsNumber page (column_place 0 0) first_cycle
+  pub shows_last : ShowsNumber page (column_place 0 number_columns) (last_cycle first_cycle cycles)
   pub first_spaces : (column : ℕ) → cycles_columns ≤ column → column < line_columns → byte_at page 0 column ≡ space
   -- "Each further line is one chosen signal, in the order chosen: its number in six columns, two spaces, then one of 0 1 U Z for each
   -- cycle, spaces to column 80."

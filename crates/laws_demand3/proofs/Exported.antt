@@ -1,4 +1,4 @@
--- What the contracts of the functions that C calls promise is what demand 3 takes of a call. `Asked` and `Learnt` are what each
+-- What the contracts of the functions that cavundir_panel_c exports for C promise is what demand 3 takes of a call. `Asked` and `Learnt` are what each
 -- function's `requires` asks and what its `ensures` tells a caller, handed on by its crate. They ask nothing; and for any references
 -- lent, whatever is told of the result and of the buffers at the return is `Meets`, or `Opens`; a call that met its contract stands in a list
 -- of calls (`own_stands`, `other_stands` in laws_engine).

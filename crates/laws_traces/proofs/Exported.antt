@@ -1,4 +1,4 @@
--- The contracts of the functions that C calls are `Turns` and `TurnsBack`: they ask nothing, and whatever is told of the bits and of the
+-- The contracts of the functions that cavundir_panel_c exports for C are `Turns` and `TurnsBack`: they ask nothing, and whatever is told of the bits and of the
 -- buffer at the return is what these say. So the theorems of `Chained` are about these functions.
 use Prim.Native.Nat.{ℕ}
 use contract.Lifetimes.{Lfts}

@@ -5,7 +5,7 @@
 ghost use Rattle.std.specs.Prelude.{◌≡◌, ◌<◌, ◌≤◌, length};
 ghost use Rattle.gates.specs.Value.{Code};
 ghost use Rattle.gates.specs.Table.{GateTables};
-ghost use Rattle.model.specs.Machine.{slots as slotsDone};
+ghost use Rattle.model.specs.Machine.{slots as slots_done};
 ghost use Rattle.model.specs.Session.{watched};
 ghost use Rattle.buffers_memory.specs.Memory.{memory_of, with_memory, MemoryBytes};
 ghost use Rattle.buffers_tables.specs.Panel.{panel_length, processors_in, slots_in, hand_in, processor_in, slot_in};
@@ -43,7 +43,7 @@ fn run_slots(
     requires memory_bytes { MemoryBytes memory.old }
     requires processors_value { (processors ≡ processors_in panel.now) × (slots ≡ slots_in panel.now) }
     requires gate_tables { GateTables functions.now translations.now }
-    ensures { memory.new ≡ with_memory (processors_in panel.now) (slots_in panel.now) (slotsDone (network_in panel.now program.now) (module_in panel.now program.now) (hand_in panel.now) (slots_in panel.now) (memory_of memory.old)) memory.old }
+    ensures { memory.new ≡ with_memory (processors_in panel.now) (slots_in panel.now) (slots_done (network_in panel.now program.now) (module_in panel.now program.now) (hand_in panel.now) (slots_in panel.now) (memory_of memory.old)) memory.old }
 {
     let mut i: u16 = 0;
     while i < slots {

@@ -6,7 +6,7 @@ ghost use Rattle.std.specs.Prelude.{◌≡◌, ◌<◌, ◌≤◌, not, eqb, len
 ghost use Rattle.gates.specs.Legal.{Legal};
 ghost use Rattle.gates.specs.Table.{GateTables};
 ghost use Rattle.model.specs.Module.{local_present, switch_present, no_sender};
-ghost use Rattle.model.specs.Machine.{sent as sentBy, slot as slotDone};
+ghost use Rattle.model.specs.Machine.{sent as sent_by, slot as slot_done};
 ghost use Rattle.buffers_memory.specs.Memory.{memory_length, memory_of, place, with_memory, written, here, MemoryBytes};
 ghost use Rattle.buffers_tables.specs.Panel.{panel_length, processors_in, slots_in, codes_in, hand_in};
 ghost use Rattle.buffers_tables.specs.Program.{program_length, signal_at, instruction_in};
@@ -101,7 +101,7 @@ fn fetch_all(
     requires processors_value { (processors ≡ processors_in panel.now) × (slot.0 < slots_in panel.now) × (length results.old ≡ 16) × (length sent.old ≡ 16) }
     requires gate_tables { GateTables functions.now translations.now }
     ensures first_are { FirstAre processors (λ p. evaluated (network_in panel.now program.now) (module_in panel.now program.now) (hand_in panel.now) (memory_of memory.now) p slot.0) results.new }
-    ensures first_are_2 { FirstAre processors (λ p. sentBy (module_in panel.now program.now) (memory_of memory.now) p slot.0) sent.new }
+    ensures first_are_2 { FirstAre processors (λ p. sent_by (module_in panel.now program.now) (memory_of memory.now) p slot.0) sent.new }
 {
     let mut p: usize = 0;
     while p < processors {
@@ -198,7 +198,7 @@ pub fn run_slot(
     requires memory_bytes { MemoryBytes memory.old }
     requires processors_value { (processors ≡ processors_in panel.now) × (slot.0 < slots_in panel.now) }
     requires gate_tables { GateTables functions.now translations.now }
-    ensures { memory.new ≡ with_memory (processors_in panel.now) (slots_in panel.now) (slotDone (network_in panel.now program.now) (module_in panel.now program.now) (hand_in panel.now) slot.0 (memory_of memory.old)) memory.old }
+    ensures { memory.new ≡ with_memory (processors_in panel.now) (slots_in panel.now) (slot_done (network_in panel.now program.now) (module_in panel.now program.now) (hand_in panel.now) slot.0 (memory_of memory.old)) memory.old }
 {
     let mut results = [0u8; 16];
     let mut sent = [0u8; 16];

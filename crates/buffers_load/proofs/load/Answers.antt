@@ -1,5 +1,4 @@
 -- `load`: the array of values is `time_zero`, and so the buffers by it are the buffers by the files.
--- the entry, from where the values are loaded
 use mathlib.Core.Path.{◌∙◌}
 use Rattle.model.specs.Files.{files_of}
 use Rattle.buffers_load_files.proofs.Fields.{schedules}

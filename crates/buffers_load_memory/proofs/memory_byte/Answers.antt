@@ -1,5 +1,4 @@
 -- `memory_byte`: 0 outside the module, and inside it each part by itself. Each answer tells the byte by the tests passed.
--- past both tests the module has the line
 use Rattle.file_mod_table.specs.Line.{LineOf}
 use Rattle.file_mod_table.proofs.Slots.{line_of}
 use Rattle.buffers_memory.specs.Memory.{byte_processor, byte_location}
@@ -8,6 +7,7 @@ use Rattle.buffers_load_memory.proofs.Memory.{told_no_processor, told_no_locatio
 use Rattle.buffers_load_memory.proofs.memory_byte.Goals as goal
 use Rattle.buffers_load_memory.proofs.memory_byte.Goals.{Else-shape-place-2}
 
+-- past both tests the module has the line
 module _ (c : Else-shape-place-2) where
   line : LineOf c.args.modfile.now c.args.shape.slots (byte_processor c.args.a) (byte_location c.args.a)
   line = line_of _ _ _ _ _ c.requires.lines_laid c.if-shape-place.false c.if-shape-place-2.false

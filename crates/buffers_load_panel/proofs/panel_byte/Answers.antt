@@ -12,8 +12,8 @@ use Rattle.buffers_load_panel.proofs.panel_byte.Goals.{After-line_index}
 
 -- the line of the signal is one of at most 16 processors
 module _ (c : After-line_index) where
-  line-few : c.line_index.result < 16 * c.args.shape.slots
-  line-few = omega (arith, c.line_index.ensures, c.requires.values_len.1.few (signal_of c.args.a) (omega arith))
+  line_few : c.line_index.result < 16 * c.args.shape.slots
+  line_few = omega (arith, c.line_index.ensures, c.requires.values_len.1.few (signal_of c.args.a) (omega arith))
 
 pub head_byte-requires : goal.head_byte-requires
 head_byte-requires c =

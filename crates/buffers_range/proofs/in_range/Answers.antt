@@ -1,5 +1,4 @@
 -- Panel, program, memory: the first out of range decides. A panel in range bounds P and C, as the other two require.
--- P and C, where the panel is in range
 use mathlib.Core.Path.{◌≡◌, sym, ◌∙◌}
 use Rattle.logic.specs.Test.{◌and◌}
 use Rattle.logic.proofs.Judged.{chain_stops, chain_goes_on, passes}
@@ -12,13 +11,14 @@ use mathlib.Core.Bool.{not}
 use Rattle.buffers_range.proofs.in_range.Goals as goal
 use Rattle.buffers_range.proofs.in_range.Goals.{Else-not-panel_right}
 
+-- P and C, where the panel is in range
 head_of : (c : Else-not-panel_right) → Head c.args.panel.now
 head_of c = (ranged_panel _ (passes _ _ c.panel_right.ensures (ap not c.if-not-panel_right.false))).head
 
-after-panel : (c : Else-not-panel_right) → ranged c.args.panel.now c.args.program.now c.args.memory.now
+after_panel : (c : Else-not-panel_right) → ranged c.args.panel.now c.args.program.now c.args.memory.now
     ≡ program_ranged c.args.panel.now c.args.program.now and memory_ranged c.args.panel.now c.args.memory.now
 unfolding ranged
-after-panel c = chain_goes_on _ _ _ c.panel_right.ensures (ap not c.if-not-panel_right.false)
+after_panel c = chain_goes_on _ _ _ c.panel_right.ensures (ap not c.if-not-panel_right.false)
 
 pub returns-then-not-panel_right : goal.returns-then-not-panel_right
 unfolding ranged
@@ -31,7 +31,7 @@ program_right-requires-clause-panel_bound c =
 
 pub returns-then-not-program_right : goal.returns-then-not-program_right
 returns-then-not-program_right c =
-    sym (after-panel (goal.at.returns-then-not-program_right c).Else-not-panel_right ∙ chain_stops _ _ _ c.program_right.ensures (ap not c.if-not-program_right.true))
+    sym (after_panel (goal.at.returns-then-not-program_right c).Else-not-panel_right ∙ chain_stops _ _ _ c.program_right.ensures (ap not c.if-not-program_right.true))
 
 pub memory_right-requires-clause-panel_bound : goal.memory_right-requires-clause-panel_bound
 memory_right-requires-clause-panel_bound c = (head_of (goal.at.memory_right-requires-clause-panel_bound c).Else-not-panel_right).slots_high
@@ -39,4 +39,4 @@ memory_right-requires-clause-panel_bound c = (head_of (goal.at.memory_right-requ
 pub returns : goal.returns
 returns c =
     c.memory_right.ensures
-    ∙ sym (after-panel (goal.at.returns c).Else-not-panel_right ∙ chain_goes_on _ _ _ c.program_right.ensures (ap not c.if-not-program_right.false))
+    ∙ sym (after_panel (goal.at.returns c).Else-not-panel_right ∙ chain_goes_on _ _ _ c.program_right.ensures (ap not c.if-not-program_right.false))

@@ -25,12 +25,12 @@ returns-in_default g c =
 
 pub refuse-requires-in_default-second : goal.refuse-requires-in_default-second
 refuse-requires-in_default-second g c =
-    let net-right = passes c.check_net-first.ensures c.in-Accepted.is refl in
+    let net_right = passes c.check_net-first.ensures c.in-Accepted.is refl in
     let told = c.mod_answer-answer.ensures in
     let answers = c.check_mod-second.ensures in
     record {
       net_in_bounds = (c.read_file-n.ensures, c.read_file-m.ensures, omega arith);
-      answer_value = told ∙ mod_stops _ _ _ net-right _ answers c.in_default-second.not-Accepted;
+      answer_value = told ∙ mod_stops _ _ _ net_right _ answers c.in_default-second.not-Accepted;
       fact = λ e. refuses answers (c.in_default-second.not-Accepted _ _) (sym told ∙ e);
       parts_value = c.requires.parts_value;
       failed_value = c.requires.failed_value;
@@ -45,13 +45,13 @@ returns-in_default-second g c =
 
 pub refuse-requires-in_default-third : goal.refuse-requires-in_default-third
 refuse-requires-in_default-third g c =
-    let net-right = passes c.check_net-first.ensures c.in-Accepted.is refl in
-    let mod-right = passes c.check_mod-second.ensures c.in-Accepted-second.is refl in
+    let net_right = passes c.check_net-first.ensures c.in-Accepted.is refl in
+    let mod_right = passes c.check_mod-second.ensures c.in-Accepted-second.is refl in
     let told = c.stim_answer-answer.ensures in
     let answers = c.check_stim-third.ensures in
     record {
       net_in_bounds = (c.read_file-n.ensures, c.read_file-m.ensures, c.read_file-k.ensures);
-      answer_value = told ∙ stim_last _ _ _ net-right _ mod-right answers;
+      answer_value = told ∙ stim_last _ _ _ net_right _ mod_right answers;
       fact = λ e. refuses answers (c.in_default-third.not-Accepted _) (sym told ∙ e);
       parts_value = c.requires.parts_value;
       failed_value = c.requires.failed_value;
@@ -66,9 +66,9 @@ returns-in_default-third g c =
 
 pub print_listing-requires-clause-accepted : goal.print_listing-requires-clause-accepted
 print_listing-requires-clause-accepted g c =
-    let net-right = passes c.check_net-first.ensures c.in-Accepted.is refl in
-    let mod-right = passes c.check_mod-second.ensures c.in-Accepted-second.is refl in
-    (all_accepted _ _ _ net-right mod-right _ _ c.in-Accepted-third.is c.check_stim-third.ensures).0
+    let net_right = passes c.check_net-first.ensures c.in-Accepted.is refl in
+    let mod_right = passes c.check_mod-second.ensures c.in-Accepted-second.is refl in
+    (all_accepted _ _ _ net_right mod_right _ _ c.in-Accepted-third.is c.check_stim-third.ensures).0
 
 pub returns-clause-prints : goal.returns-clause-prints
 returns-clause-prints g c = handed_prints c.print_listing.ensures.handed

@@ -11,14 +11,14 @@ use Rattle.charts.proofs.chart.Goals as goal
 use Rattle.charts.proofs.chart.Goals.{In-Done}
 
 module _ (c : In-Done) where
-  chart-passes : chart_check c.args.signals.now c.args.values.now c.args.page.now c.args.count c.args.first c.args.cycles ≡ pass
-  chart-passes = passes c.check_chart-answer.ensures c.in-Done.is refl
+  chart_passes : chart_check c.args.signals.now c.args.values.now c.args.page.now c.args.count c.args.first c.args.cycles ≡ pass
+  chart_passes = passes c.check_chart-answer.ensures c.in-Done.is refl
 
   lent : ChartSizes c.args.signals.now c.args.values.now c.args.page.now
-  lent = chart_lent_lem _ _ _ _ _ _ chart-passes
+  lent = chart_lent_lem _ _ _ _ _ _ chart_passes
 
   counts : ChartCounts c.args.count c.args.first c.args.cycles
-  counts = chart_counts _ _ _ _ _ _ chart-passes
+  counts = chart_counts _ _ _ _ _ _ chart_passes
 
 pub returns-in_default-clause-answer : goal.returns-in_default-clause-answer
 returns-in_default-clause-answer c = (call_refused c.check_chart-answer.ensures [] [] c.in_default.not-Done c.bits.ensures).0

@@ -8,11 +8,11 @@ use Rattle.charts.proofs.check_chart.Goals as goal
 use Rattle.charts.proofs.check_chart.Goals.{In-Done, In-Done-counts}
 
 module _ (c : In-Done) where
-  lent-passes : lent_check c.args.signals.now c.args.values.now c.args.page.now ≡ pass
-  lent-passes = passes c.check_lent-lent.ensures c.in-Done.is refl
+  lent_passes : lent_check c.args.signals.now c.args.values.now c.args.page.now ≡ pass
+  lent_passes = passes c.check_lent-lent.ensures c.in-Done.is refl
 
   lent : ChartSizes c.args.signals.now c.args.values.now c.args.page.now
-  lent = lent_right _ _ _ lent-passes
+  lent = lent_right _ _ _ lent_passes
 
 module _ (c : In-Done-counts) where
   counts_pass : counts_check c.args.count c.args.first c.args.cycles ≡ pass
@@ -28,7 +28,7 @@ returns-in_default c = stops c.check_lent-lent.ensures c.in_default.not-Done _
 pub returns-in_default-counts : goal.returns-in_default-counts
 unfolding chart_check
 returns-in_default-counts c =
-    after (lent-passes (goal.at.returns-in_default-counts c).In-Done) (stops c.check_counts-counts.ensures c.in_default-counts.not-Done _)
+    after (lent_passes (goal.at.returns-in_default-counts c).In-Done) (stops c.check_counts-counts.ensures c.in_default-counts.not-Done _)
 
 pub check_signals-chosen-requires : goal.check_signals-chosen-requires
 check_signals-chosen-requires c =
@@ -37,7 +37,7 @@ check_signals-chosen-requires c =
 pub returns-in_default-chosen : goal.returns-in_default-chosen
 unfolding chart_check
 returns-in_default-chosen c =
-    after (lent-passes (goal.at.returns-in_default-chosen c).In-Done)
+    after (lent_passes (goal.at.returns-in_default-chosen c).In-Done)
     (after (counts_pass (goal.at.returns-in_default-chosen c).In-Done-counts) (stops c.check_signals-chosen.ensures c.in_default-chosen.not-Done _))
 
 pub check_values-requires : goal.check_values-requires
@@ -47,6 +47,6 @@ check_values-requires c =
 pub returns : goal.returns
 unfolding chart_check
 returns c =
-    after (lent-passes (goal.at.returns c).In-Done)
+    after (lent_passes (goal.at.returns c).In-Done)
     (after (counts_pass (goal.at.returns c).In-Done-counts)
     (after (passes c.check_signals-chosen.ensures c.in-Done-chosen.is refl) c.check_values.ensures))

@@ -12,11 +12,11 @@ use Rattle.file_checks.proofs.check_files.Goals.{In-Accepted}
 
 -- NET is accepted, where its answer says so
 module _ (c : In-Accepted) where
-  net-right : net_check 4096 c.args.net.now ≡ pass
-  net-right = passes c.check_net-first.ensures c.in-Accepted.is refl
+  net_right : net_check 4096 c.args.net.now ≡ pass
+  net_right = passes c.check_net-first.ensures c.in-Accepted.is refl
 
-  net-checked : Checked c.args.net.now
-  net-checked = checked_accepted 4096 (omega arith) _ net-right
+  net_checked : Checked c.args.net.now
+  net_checked = checked_accepted 4096 (omega arith) _ net_right
 
 pub returns-in_default : goal.returns-in_default
 returns-in_default c =
@@ -27,11 +27,11 @@ returns-in_default c =
 pub returns-in_default-second : goal.returns-in_default-second
 returns-in_default-second c =
     c.mod_answer.ensures
-    ∙ mod_stops c.args.net.now c.args.modfile.now c.args.stim.now (net-right (goal.at.returns-in_default-second c).In-Accepted) _ c.check_mod-second.ensures
+    ∙ mod_stops c.args.net.now c.args.modfile.now c.args.stim.now (net_right (goal.at.returns-in_default-second c).In-Accepted) _ c.check_mod-second.ensures
     c.in_default-second.not-Accepted
 
 pub returns : goal.returns
 returns c =
-    let mod-right = passes c.check_mod-second.ensures c.in-Accepted-second.is refl in
+    let mod_right = passes c.check_mod-second.ensures c.in-Accepted-second.is refl in
     c.stim_answer.ensures
-    ∙ stim_last c.args.net.now c.args.modfile.now c.args.stim.now (net-right (goal.at.returns c).In-Accepted) _ mod-right c.check_stim.ensures
+    ∙ stim_last c.args.net.now c.args.modfile.now c.args.stim.now (net_right (goal.at.returns c).In-Accepted) _ mod_right c.check_stim.ensures

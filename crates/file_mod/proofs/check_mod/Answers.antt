@@ -11,8 +11,8 @@ use Rattle.file_mod.proofs.check_mod.Goals as goal
 use Rattle.file_mod.proofs.check_mod.Goals.{After-check_form-form}
 
 -- the lines answer for the network of NET
-form-answers : (c : After-check_form-form) → ModAnswers c.args.modfile.now (form_check (network c.args.net.now) c.args.modfile.now) c.check_form-form.result
-form-answers c =
+form_answers : (c : After-check_form-form) → ModAnswers c.args.modfile.now (form_check (network c.args.net.now) c.args.modfile.now) c.check_form-form.result
+form_answers c =
     c.check_form-form.ensures (network c.args.net.now) (net_signals c.args.net.now _ c.number_at-signals.ensures)
 
 pub number_at-signals-requires : goal.number_at-signals-requires
@@ -20,14 +20,14 @@ number_at-signals-requires c = checked_field c.args.net.now c.requires 0 1 6 (om
 
 pub returns-in_default : goal.returns-in_default
 returns-in_default c =
-    checked _ _ _ (stops (form-answers (goal.at.returns-in_default c).After-check_form-form) (c.in_default.not-Accepted _ _) _)
+    checked _ _ _ (stops (form_answers (goal.at.returns-in_default c).After-check_form-form) (c.in_default.not-Accepted _ _) _)
 
 pub check_module-requires-clause-formed : goal.check_module-requires-clause-formed
 check_module-requires-clause-formed c =
-    let answers = form-answers (goal.at.check_module-requires-clause-formed c).After-check_form-form in
+    let answers = form_answers (goal.at.check_module-requires-clause-formed c).After-check_form-form in
     let sizes = same answers c.in-Accepted.is refl in
     formed _ _ _ _ c.requires (passes answers c.in-Accepted.is refl) (cc sizes) (cc sizes)
 
 pub returns : goal.returns
 returns c =
-    checked _ _ _ (after (passes (form-answers (goal.at.returns c).After-check_form-form) c.in-Accepted.is refl) c.check_module.ensures)
+    checked _ _ _ (after (passes (form_answers (goal.at.returns c).After-check_form-form) c.in-Accepted.is refl) c.check_module.ensures)

@@ -9,8 +9,8 @@ use Rattle.file_mod.proofs.check_module.Goals as goal
 use Rattle.file_mod.proofs.check_module.Goals.{After-check_placements-placements}
 
 -- 22 answers for the network of NET
-placed-answers : (c : After-check_placements-placements) → ModAnswers c.args.modfile.now (placed (network c.args.net.now) (module_of c.args.modfile.now)) c.check_placements-placements.result
-placed-answers c =
+placed_answers : (c : After-check_placements-placements) → ModAnswers c.args.modfile.now (placed (network c.args.net.now) (module_of c.args.modfile.now)) c.check_placements-placements.result
+placed_answers c =
     c.check_placements-placements.ensures (network c.args.net.now) (net_signals c.args.net.now _ c.requires.signals_value)
 
 pub check_placements-placements-requires-clause-signals_bound : goal.check_placements-placements-requires-clause-signals_bound
@@ -18,22 +18,22 @@ check_placements-placements-requires-clause-signals_bound c = signals_few _ _ c.
 
 pub returns-in_default : goal.returns-in_default
 returns-in_default c =
-    stops (placed-answers (goal.at.returns-in_default c).After-check_placements-placements) (c.in_default.not-Accepted _ _) _
+    stops (placed_answers (goal.at.returns-in_default c).After-check_placements-placements) (c.in_default.not-Accepted _ _) _
 
 pub returns-in_default-sends : goal.returns-in_default-sends
 returns-in_default-sends c =
-    let right-placements = passes (placed-answers (goal.at.returns-in_default-sends c).After-check_placements-placements) c.in-Accepted.is refl in
-    after right-placements (stops c.check_each-sends.ensures (c.in_default-sends.not-Accepted _ _) _)
+    let right_placements = passes (placed_answers (goal.at.returns-in_default-sends c).After-check_placements-placements) c.in-Accepted.is refl in
+    after right_placements (stops c.check_each-sends.ensures (c.in_default-sends.not-Accepted _ _) _)
 
 pub returns-in_default-receptions : goal.returns-in_default-receptions
 returns-in_default-receptions c =
-    let right-placements = passes (placed-answers (goal.at.returns-in_default-receptions c).After-check_placements-placements) c.in-Accepted.is refl in
-    let right-sends = passes c.check_each-sends.ensures c.in-Accepted-sends.is refl in
-    after right-placements (after right-sends (stops c.check_each-receptions.ensures (c.in_default-receptions.not-Accepted _ _) _))
+    let right_placements = passes (placed_answers (goal.at.returns-in_default-receptions c).After-check_placements-placements) c.in-Accepted.is refl in
+    let right_sends = passes c.check_each-sends.ensures c.in-Accepted-sends.is refl in
+    after right_placements (after right_sends (stops c.check_each-receptions.ensures (c.in_default-receptions.not-Accepted _ _) _))
 
 pub returns : goal.returns
 returns c =
-    let right-placements = passes (placed-answers (goal.at.returns c).After-check_placements-placements) c.in-Accepted.is refl in
-    let right-sends = passes c.check_each-sends.ensures c.in-Accepted-sends.is refl in
-    let right-receptions = passes c.check_each-receptions.ensures c.in-Accepted-receptions.is refl in
-    after right-placements (after right-sends (after right-receptions c.check_each.ensures))
+    let right_placements = passes (placed_answers (goal.at.returns c).After-check_placements-placements) c.in-Accepted.is refl in
+    let right_sends = passes c.check_each-sends.ensures c.in-Accepted-sends.is refl in
+    let right_receptions = passes c.check_each-receptions.ensures c.in-Accepted-receptions.is refl in
+    after right_placements (after right_sends (after right_receptions c.check_each.ensures))

@@ -1,6 +1,5 @@
 -- `line_at` in its order: the first number or pair that is wrong decides, by `equal_stops`, `most_stops` or `chain_stops`.
 -- The first three are numbers (`numbers`).
--- the state at the start, from where the first, the second and the third number were right
 use Prim.Native.Nat.{◌+◌, ◌≤◌}
 use mathlib.Core.Path.{◌≡◌, sym, ◌∙◌}
 use mathlib.Core.Bool.{Bool}

@@ -15,6 +15,6 @@ returns-then-gate-location c =
 
 pub returns : goal.returns
 returns c =
-    let right-kind = equal_goes_on _ _ _ _ refl c.if-gate-ne3.false in
+    let right_kind = equal_goes_on _ _ _ _ refl c.if-gate-ne3.false in
     ap (λ (x : ℕ). eqb x c.args.gate.source) c.signal_at.ensures
-    ∙ sym (reads_local_present _ _ _ _ _ _ ∙ right-kind ∙ low_goes_on _ _ _ c.if-gate-location.false)
+    ∙ sym (reads_local_present _ _ _ _ _ _ ∙ right_kind ∙ low_goes_on _ _ _ c.if-gate-location.false)

@@ -28,10 +28,13 @@ collected : (c : Else-not-ends_line) → record { time = record { 0 = get_or c.l
 collected c = numbers_here _ c.loop-column.invariant.2 (omega (arith, c.loop-column-test.false))
 
 -- the line, judged by its numbers
-judges : (c : After-judge-judged) → judged (network c.args.net.now) c.lines.index (leb (length c.args.stim.now) (stim_line (c.lines.index + 1))) (numbers_before c.args.stim.now c.lines.index) (numbers_of c.args.stim.now c.lines.index) ≡ c.judge-judged.result
-judges c =
-    judged_here _ _ _ _ _ _ _ c.lines.invariant.1 (let told : record { time = record { 0 = get_or c.loop-column.numbers 0 0 }; signal = get_or c.loop-column.numbers 1 0; value = get_or c.loop-column.numbers 2 0 }
-    ≡ numbers_of c.args.stim.now c.lines.index = numbers_here _ c.loop-column.invariant.2 (omega (arith, c.loop-column-test.false)) in told) (let told : c.loop-column.at ≡ 19 * c.lines.index + 18 = omega (arith, c.loop-column.invariant.1.few, c.loop-column.invariant.1.here) in told) c.judge-judged.ensures
+judges : (c : After-judge-judged)
+    → record { time = record { 0 = get_or c.loop-column.numbers 0 0 }; signal = get_or c.loop-column.numbers 1 0; value = get_or c.loop-column.numbers 2 0 }
+    ≡ numbers_of c.args.stim.now c.lines.index
+    → judged (network c.args.net.now) c.lines.index (leb (length c.args.stim.now) (stim_line (c.lines.index + 1))) (numbers_before c.args.stim.now c.lines.index) (numbers_of c.args.stim.now c.lines.index) ≡ c.judge-judged.result
+judges c numbers =
+    let place : c.loop-column.at ≡ 19 * c.lines.index + 18 = omega (arith, c.loop-column.invariant.1.few, c.loop-column.invariant.1.here) in
+    judged_here _ _ _ _ _ _ _ c.lines.invariant.1 numbers place c.judge-judged.ensures
 
 pub lines-init : goal.lines-init
 unfolding numbers_before
@@ -46,11 +49,13 @@ loop-column-preserved c =
     (c.loop-column.invariant.0, fields_go_on c.loop-column.invariant.1 c.loop-column-test.true number, numbers_more c.loop-column.invariant.2 c.loop-column-test.true _ (fields_number c.loop-column.invariant.1 number))
 
 pub lines-preserved : goal.lines-preserved
-lines-preserved c = (
-  c.loop-column.invariant.0 ∙ c.lines.invariant.0,
-  next_before _ _ _ (collected (goal.at.lines-preserved c).Else-not-ends_line),
-  line_passed _ _ _ c.lines.invariant.2 c.lines-test.true (form (goal.at.lines-preserved c).Else-not-ends_line) (judges (goal.at.lines-preserved c).After-judge-judged ∙ c.in_default-judged.is),
-)
+lines-preserved c =
+    let past = goal.at.lines-preserved c in
+    let numbers = collected past.Else-not-ends_line in (
+      c.loop-column.invariant.0 ∙ c.lines.invariant.0,
+      next_before _ _ _ numbers,
+      line_passed _ _ _ c.lines.invariant.2 c.lines-test.true (form past.Else-not-ends_line) (judges past.After-judge-judged numbers ∙ c.in_default-judged.is),
+    )
 
 -- line 65535
 pub returns-after-lines : goal.returns-after-lines
@@ -71,4 +76,6 @@ returns-then-not-ends_line c =
 -- a line whose numbers decide
 pub returns-in-Answered : goal.returns-in-Answered
 returns-in-Answered c =
-    line_answers _ _ _ c.lines.invariant.2 c.lines-test.true (form (goal.at.returns-in-Answered c).Else-not-ends_line) _ (judges (goal.at.returns-in-Answered c).After-judge-judged ∙ c.in-Answered.is)
+    let past = goal.at.returns-in-Answered c in
+    line_answers _ _ _ c.lines.invariant.2 c.lines-test.true (form past.Else-not-ends_line) _
+    (judges past.After-judge-judged (collected past.Else-not-ends_line) ∙ c.in-Answered.is)

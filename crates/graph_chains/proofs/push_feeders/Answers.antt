@@ -1,5 +1,4 @@
 -- `push_feeders` is four pushes.
--- an entry of the graph names a node or none
 use Rattle.graph_chains.proofs.Pushing.{push_four}
 use Rattle.graph_chains.proofs.push_feeders.Goals as goal
 

@@ -1,5 +1,4 @@
 -- `open_feeder` takes each of four feeders.
--- an entry of the graph names a node or none
 use Rattle.graph_ranks.proofs.Descending.{open_four}
 use Rattle.graph_ranks.proofs.open_feeder.Goals as goal
 

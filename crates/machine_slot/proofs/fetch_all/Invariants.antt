@@ -2,7 +2,7 @@
 use Prim.Native.Nat.{◌≤◌, ◌-◌}
 use mathlib.Core.Path.{◌≡◌}
 use lib.ListN.{length}
-use Rattle.model.specs.Machine.{sent as sentBy}
+use Rattle.model.specs.Machine.{sent as sent_by}
 use Rattle.buffers_memory.specs.Memory.{memory_of}
 use Rattle.buffers_tables.specs.Panel.{hand_in}
 use Rattle.buffers_tables.specs.Tables.{network_in, module_in}
@@ -13,7 +13,7 @@ abbrev pub invariant-loop-p : goal.invariant-loop-p
 invariant-loop-p l =
     (l.p ≤ l.processors) × (length l.results ≡ 16) × (length l.sent ≡ 16)
     × FirstAre l.p (λ q. evaluated (network_in l.panel l.program) (module_in l.panel l.program) (hand_in l.panel) (memory_of l.memory) q l.slot.0) l.results
-    × FirstAre l.p (λ q. sentBy (module_in l.panel l.program) (memory_of l.memory) q l.slot.0) l.sent
+    × FirstAre l.p (λ q. sent_by (module_in l.panel l.program) (memory_of l.memory) q l.slot.0) l.sent
 
 abbrev pub decreases-loop-p : goal.decreases-loop-p
 decreases-loop-p l = l.processors - l.p

@@ -1,5 +1,4 @@
 -- `run_in`: decoded, run and encoded, the panel has the head of the outcome, and the memory its state.
--- the entry, from where the head was decoded
 use Rattle.session_calls.proofs.Replies.{writes}
 use Rattle.session_calls.proofs.run_in.Goals as goal
 

@@ -1,6 +1,5 @@
 -- 43 leaves head and memory as they were (`run_refused`, `memory_kept`); else the machine's run is the model's
 -- (`run_done`), of at most k cycles (`run_most`), so that the cycles finished stay below 65536.
--- the entry, from where the machine has run
 use Prim.Native.Nat.{ℕ, ◌+◌, ◌≤◌, ◌<◌}
 use mathlib.Core.Path.{refl, sym, ◌∙◌, ap}
 use Rattle.model.specs.Machine.{Memory}
