@@ -1,10 +1,10 @@
 -- By the answer of the check: refused (`call_refused`), or the page is written (`call_done`).
-use mathlib.Core.List.{[]}
 use mathlib.Core.Path.{◌≡◌, refl}
 use native.Mathlib.Omega.{arith}
 use Rattle.model.specs.Refusal.{pass}
 use Rattle.file_lines.proofs.Stages.{passes}
 use Rattle.session_answers.proofs.Calls.{call_refused, call_done}
+use Rattle.charts.specs.Text.{page_text, printed_on}
 use Rattle.charts.specs.Checks.{chart_check}
 use Rattle.charts.proofs.Refusals.{ChartSizes, ChartCounts, chart_lent_lem, chart_counts}
 use Rattle.charts.proofs.chart.Goals as goal
@@ -20,11 +20,10 @@ module _ (c : In-Done) where
   counts : ChartCounts c.args.count c.args.first c.args.cycles
   counts = chart_counts _ _ _ _ _ _ chart_passes
 
-pub returns-in_default-clause-answer : goal.returns-in_default-clause-answer
-returns-in_default-clause-answer c = (call_refused c.check_chart-answer.ensures [] [] c.in_default.not-Done c.bits.ensures).0
-
-pub returns-in_default-clause-page : goal.returns-in_default-clause-page
-returns-in_default-clause-page c = (call_refused c.check_chart-answer.ensures _ _ c.in_default.not-Done c.bits.ensures).1
+pub returns-in_default : goal.returns-in_default
+returns-in_default c =
+    let both = call_refused c.check_chart-answer.ensures (printed_on c.args.page.now (page_text c.args.signals.now c.args.values.now c.args.count c.args.first c.args.cycles)) c.args.page.now c.in_default.not-Done c.bits.ensures in
+    record { answer = both.0; page = both.1 }
 
 pub overflow_cast-begin : goal.overflow_cast-begin
 overflow_cast-begin c =
@@ -36,8 +35,7 @@ write_page-requires c =
     let n = counts (goal.at.write_page-requires c).In-Done in
     (l.signals_size, l.values_size, l.page_size, n.count_high, n.cycles_low, n.cycles_high, n.last_high)
 
-pub returns-clause-answer : goal.returns-clause-answer
-returns-clause-answer c = (call_done c.check_chart-answer.ensures [] [] c.in-Done.is refl refl).0
-
-pub returns-clause-page : goal.returns-clause-page
-returns-clause-page c = (call_done c.check_chart-answer.ensures _ _ c.in-Done.is refl c.write_page.ensures).1
+pub returns : goal.returns
+returns c =
+    let both = call_done c.check_chart-answer.ensures (printed_on c.args.page.now (page_text c.args.signals.now c.args.values.now c.args.count c.args.first c.args.cycles)) c.args.page.now c.in-Done.is refl c.write_page.ensures in
+    record { answer = both.0; page = both.1 }

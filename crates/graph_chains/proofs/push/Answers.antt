@@ -14,10 +14,7 @@ returns-then-marks-node-ne0-clause-result_after c =
 pub bounds-stack-depth : goal.bounds-stack-depth
 bounds-stack-depth c = omega (arith, zeros_at c.args.marks.now c.args.x (omega arith) c.if-marks-node-ne0.false)
 
-pub returns-clause-result_after : goal.returns-clause-result_after
-returns-clause-result_after c =
-    (push_answers _ _ _ c.requires.room c.requires.x_lt_places (push_new _ _ c.if-x-eq0.false c.if-marks-node-ne0.false)).0
-
-pub returns-clause-room_2 : goal.returns-clause-room_2
-returns-clause-room_2 c =
-    (push_answers _ _ _ c.requires.room c.requires.x_lt_places (push_new _ _ c.if-x-eq0.false c.if-marks-node-ne0.false)).1
+pub returns : goal.returns
+returns c =
+    let both = push_answers _ _ _ c.requires.room c.requires.x_lt_places (push_new _ _ c.if-x-eq0.false c.if-marks-node-ne0.false) in
+    record { result_after = both.0; room_2 = both.1 }

@@ -11,8 +11,7 @@ run-told-requires-clause-watching c = ready_watching _ _ _ _ c.requires.ready
 pub run-told-requires-clause-memory_bytes : goal.run-told-requires-clause-memory_bytes
 run-told-requires-clause-memory_bytes c = right_memory c.requires.ready.right
 
-pub returns-clause-one_more : goal.returns-clause-one_more
-returns-clause-one_more c = (cycle_left _ _ _ _ c.requires.ready _ _ c.run-told.ensures.tells c.run-told.ensures.memory_after).0
-
-pub returns-clause-memory_after : goal.returns-clause-memory_after
-returns-clause-memory_after c = (cycle_left _ _ _ _ c.requires.ready _ _ c.run-told.ensures.tells c.run-told.ensures.memory_after).1
+pub returns : goal.returns
+returns c =
+    let both = cycle_left _ _ _ _ c.requires.ready _ _ c.run-told.ensures.tells c.run-told.ensures.memory_after in
+    record { one_more = both.0; memory_after = both.1 }

@@ -12,16 +12,12 @@ run_in-requires-clause-watching c = right_watching _ _ c.readiness.ensures c.in-
 pub run_in-requires-clause-memory_bytes : goal.run_in-requires-clause-memory_bytes
 run_in-requires-clause-memory_bytes c = right_memory _ _ c.readiness.ensures c.in-Right.is
 
-pub returns-in-Refused-clause-answer : goal.returns-in-Refused-clause-answer
-returns-in-Refused-clause-answer c = (replies_refused _ _ _ c.readiness.ensures _ c.in-Refused.is _ c.bits.ensures).0
+pub returns-in-Refused : goal.returns-in-Refused
+returns-in-Refused c =
+    let both = replies_refused _ _ _ c.readiness.ensures _ c.in-Refused.is _ c.bits.ensures in
+    record { answer = both.0; left = both.1 }
 
-pub returns-in-Refused-clause-left : goal.returns-in-Refused-clause-left
-returns-in-Refused-clause-left c = (replies_refused _ _ _ c.readiness.ensures _ c.in-Refused.is _ c.bits.ensures).1
-
-pub returns-in-Right-clause-answer : goal.returns-in-Right-clause-answer
-returns-in-Right-clause-answer c =
-    (replies_run _ _ _ c.readiness.ensures c.in-Right.is _ _ _ c.run_in.ensures.writes c.run_in.ensures.memory_after).0
-
-pub returns-in-Right-clause-left : goal.returns-in-Right-clause-left
-returns-in-Right-clause-left c =
-    (replies_run _ _ _ c.readiness.ensures c.in-Right.is _ _ _ c.run_in.ensures.writes c.run_in.ensures.memory_after).1
+pub returns-in-Right : goal.returns-in-Right
+returns-in-Right c =
+    let both = replies_run _ _ _ c.readiness.ensures c.in-Right.is _ _ _ c.run_in.ensures.writes c.run_in.ensures.memory_after in
+    record { answer = both.0; left = both.1 }

@@ -14,34 +14,27 @@ use Rattle.buffers_tables.proofs.Hands.{hands_own}
 use native.Mathlib.Omega.{arith}
 use Rattle.session_state.proofs.Session.run.Goals as goal
 
-pub returns-then-count-cycles-clause-tells : goal.returns-then-count-cycles-clause-tells
-returns-then-count-cycles-clause-tells c =
+pub returns-then-count-cycles : goal.returns-then-count-cycles
+returns-then-count-cycles c =
     let h = head_of c.args.self c.args.panel.now in
     let l : 65535 < h.finished + c.args.cycles = omega (arith, c.if-count-cycles.true) in
-    tells _ _ _ _ _ (run_refused c.args.panel.now c.args.program.now c.args.memory.now h c.args.cycles l) refl refl refl (sym (hands_own c.args.panel.now c.requires.tables.panel_size))
-
-pub returns-then-count-cycles-clause-memory_after : goal.returns-then-count-cycles-clause-memory_after
-returns-then-count-cycles-clause-memory_after c =
-    let h = head_of c.args.self c.args.panel.now in
-    let l : 65535 < h.finished + c.args.cycles = omega (arith, c.if-count-cycles.true) in
-    memory_kept c.args.panel.now c.args.program.now c.args.memory.now h c.args.cycles c.requires.memory_bytes.size l
+    record {
+      tells = tells _ _ _ _ _ (run_refused c.args.panel.now c.args.program.now c.args.memory.now h c.args.cycles l) refl refl refl (sym (hands_own c.args.panel.now c.requires.tables.panel_size));
+      memory_after = memory_kept c.args.panel.now c.args.program.now c.args.memory.now h c.args.cycles c.requires.memory_bytes.size l;
+    }
 
 pub overflow_add-result : goal.overflow_add-result
 overflow_add-result c =
     let most = run_most c.args.panel.now c.args.program.now (watch_of c.args.self.watch) (memory_of c.args.memory.now) c.args.cycles in
     omega (arith, c.run-ran.ensures.0, most, c.if-count-cycles.false)
 
-pub returns-clause-tells : goal.returns-clause-tells
-returns-clause-tells c =
+pub returns : goal.returns
+returns c =
     let h = head_of c.args.self c.args.panel.now in
     let l : h.finished + c.args.cycles ≤ 65535 = omega (arith, c.if-count-cycles.false) in
     let e = run_done c.args.panel.now c.args.program.now c.args.memory.now h.finished h.watch c.args.cycles l in
-    tells _ _ _ _ _ e (ap (λ (x : ℕ). ran x c.run-ran.result.stopped) c.run-ran.ensures.0 ∙ ap (ran (run_in c.args.panel.now c.args.program.now h.watch c.args.cycles (memory_of c.args.memory.now)).count) c.run-ran.ensures.1)
-    (ap (λ (x : ℕ). h.finished + x) c.run-ran.ensures.0) refl (sym (hands_own c.args.panel.now c.requires.tables.panel_size))
-
-pub returns-clause-memory_after : goal.returns-clause-memory_after
-returns-clause-memory_after c =
-    let h = head_of c.args.self c.args.panel.now in
-    let l : h.finished + c.args.cycles ≤ 65535 = omega (arith, c.if-count-cycles.false) in
-    let e = run_done c.args.panel.now c.args.program.now c.args.memory.now h.finished h.watch c.args.cycles l in
-    c.run-ran.ensures.2 ∙ ap (λ (o : Outcome Memory). with_memory (processors_in c.args.panel.now) (slots_in c.args.panel.now) o.state c.args.memory.now) (sym e)
+    record {
+      tells = tells _ _ _ _ _ e (ap (λ (x : ℕ). ran x c.run-ran.result.stopped) c.run-ran.ensures.0 ∙ ap (ran (run_in c.args.panel.now c.args.program.now h.watch c.args.cycles (memory_of c.args.memory.now)).count) c.run-ran.ensures.1)
+          (ap (λ (x : ℕ). h.finished + x) c.run-ran.ensures.0) refl (sym (hands_own c.args.panel.now c.requires.tables.panel_size));
+      memory_after = c.run-ran.ensures.2 ∙ ap (λ (o : Outcome Memory). with_memory (processors_in c.args.panel.now) (slots_in c.args.panel.now) o.state c.args.memory.now) (sym e);
+    }
