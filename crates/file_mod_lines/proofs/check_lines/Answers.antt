@@ -24,10 +24,10 @@ all_read c =
     record { few = c.loop-column.invariant.1.few; here = omega (arith, c.loop-column.invariant.1.few, c.loop-column-test.false); right = c.loop-column.invariant.1.right }
 
 -- the line is right where all its fields are and byte 10 ends it
-form : (c : Else-not-ends_line) → is_line_at c.args.modfile.now (85 * (c.lines.k + 1)) 14 ≡ true
-form c =
-    fields_end (let told : let start = 85 * (c.lines.k + 1) in
-    FieldsRight c.args.modfile.now start 14 c.loop-column.column (start + 84) = record { few = c.loop-column.invariant.1.few; here = omega (arith, c.loop-column.invariant.1.few, c.loop-column-test.false); right = c.loop-column.invariant.1.right } in told) c.loop-column-test.false c.ends_line.ensures ∙ not-false _ (ap not c.if-not-ends_line.false)
+form : (c : Else-not-ends_line)
+    → FieldsRight c.args.modfile.now (85 * (c.lines.k + 1)) 14 c.loop-column.column (85 * (c.lines.k + 1) + 84)
+    → is_line_at c.args.modfile.now (85 * (c.lines.k + 1)) 14 ≡ true
+form c read = fields_end read c.loop-column-test.false c.ends_line.ensures ∙ not-false _ (ap not c.if-not-ends_line.false)
 
 -- how many lines there are
 total : (c : At-lines) → c.line_count-lines.result ≡ mod_processors c.args.modfile.now * mod_slots c.args.modfile.now
@@ -51,14 +51,14 @@ loop-column-preserved c =
     (c.loop-column.invariant.0, record { few = more.few; here = refl; right = more.right })
 
 pub line_laid-requires : goal.line_laid-requires
-line_laid-requires c = form (goal.at.line_laid-requires c).Else-not-ends_line
+line_laid-requires c = form (goal.at.line_laid-requires c).Else-not-ends_line (all_read (goal.at.line_laid-requires c).After-ends_line)
 
 pub lines-preserved : goal.lines-preserved
 lines-preserved c =
     let right = not-false _ (ap not c.if-not-line_laid.false) in (
       c.loop-column.invariant.0 ∙ c.lines.invariant.0,
       omega arith,
-      λ n e. lines_go_on _ _ (c.lines.invariant.2 n e) (slot_passes _ _ n (form (goal.at.lines-preserved c).Else-not-ends_line) _ _ c.requires _ (laid (goal.at.lines-preserved c).After-line_laid n e) right),
+      λ n e. lines_go_on _ _ (c.lines.invariant.2 n e) (slot_passes _ _ n (form (goal.at.lines-preserved c).Else-not-ends_line (all_read (goal.at.lines-preserved c).After-ends_line)) _ _ c.requires _ (laid (goal.at.lines-preserved c).After-line_laid n e) right),
     )
 
 pub returns-after-lines : goal.returns-after-lines
@@ -86,4 +86,4 @@ pub returns-then-not-line_laid : goal.returns-then-not-line_laid
 unfolding each_line
 returns-then-not-line_laid c n e =
     lines_stop _ _ (c.lines.invariant.2 n e) _ (omega (arith, total (goal.at.returns-then-not-line_laid c).At-lines)) refl
-    (layout_wrong _ _ n (form (goal.at.returns-then-not-line_laid c).Else-not-ends_line) _ _ c.requires _ (laid (goal.at.returns-then-not-line_laid c).After-line_laid n e) (not-true _ (ap not c.if-not-line_laid.true)))
+    (layout_wrong _ _ n (form (goal.at.returns-then-not-line_laid c).Else-not-ends_line (all_read (goal.at.returns-then-not-line_laid c).After-ends_line)) _ _ c.requires _ (laid (goal.at.returns-then-not-line_laid c).After-line_laid n e) (not-true _ (ap not c.if-not-line_laid.true)))
