@@ -7,3 +7,4 @@ pub mod Pigeon
 pub mod Counts
 pub mod Listed
 pub mod Filling
+pub mod Ranges
