@@ -1,18 +1,21 @@
 -- The columns at a place of a file, and what reading them answers.
 use Prim.Native.Nat.{ℕ, suc, ◌+◌, ◌<◌, ◌≤◌}
-use mathlib.Core.Path.{◌≡◌, refl, ◌∙◌}
+use mathlib.Core.Path.{◌≡◌, refl, subst}
 use mathlib.Core.Bool.{Bool, true, false}
 use mathlib.Core.List.{List, [], ◌∷◌}
 use native.Mathlib.Omega.{arith}
 use native.Mathlib.Numerals.{towards_suc}
-use lib.ListN.{length, get_or, drop, length-take, length-drop}
-use lib.Seq.{drop-cons}
-use borrow.Author.Tests.{ne_eqb}
+use mathlib.Core.Logic.{◌⊎◌, inl, inr}
+use lib.ListN.{length, get_or, take, drop, length-take, length-drop}
+use lib.Seq.{drop-cons, take-length}
+use borrow.Author.Tests.{ne_eqb, eq-eqb}
+use Rattle.std.specs.Prelude.{Option, Some, None}
+use Rattle.std.specs.List.{slice_range}
 use Rattle.logic.specs.Test.{◌and◌}
 use Rattle.fields.specs.Field.{columns_at, is_field, is_field_at, is_numeral, after_spaces, number}
 use Rattle.fields.specs.Reading.{read_field}
-use Rattle.fields.specs.Scan.{scans, field_of}
-use Rattle.fields.specs.declared.Field.TheVariants.{Misformed}
+use Rattle.fields.specs.Scan.{scans, number_of}
+use lib.Dec.{eqb}
 use Rattle.fields.specs.declared.Scan.{Scan}
 use Rattle.fields.specs.declared.Scan.TheVariants.{Blank, Digits, Bad}
 use Rattle.fields.proofs.Scanning.{scans_numeral, scans_found}
@@ -38,18 +41,31 @@ pub six_field : (l : List ℕ) (at : ℕ) → at + 6 ≤ length l → is_field_a
 unfolding is_field ◌and◌
 six_field l at h = rw (columns_six l at h)
 
-pub field_found : (l : List ℕ) (at : ℕ) → at + 6 ≤ length l → read_field l at ≡ field_of (scans Blank (six l at)) (at + 6)
-unfolding read_field number
-field_found l at h = go (scans Blank (six l at)) refl
-  where
-    none : ((n : ℕ) → scans Blank (six l at) ≡ Digits n → ⊥) → (b : Bool) → is_numeral (after_spaces (six l at)) ≡ b → read_field l at ≡ Misformed
-    none n true e = absurd (n (number (six l at)) (scans_numeral (six l at) e))
-    none n false e = rw (six_field l at h ∙ e)
+-- what scanning six columns finds
+module _ (l : List ℕ) (at : ℕ) (h : at + 6 ≤ length l) where
+  six_columns : eqb (length (columns_at l at)) 6 ≡ true
+  six_columns = eq-eqb (length (columns_at l at)) 6 (omega (arith, length-take 6 (drop at l), length-drop at l))
 
-    go : (s : Scan) → scans Blank (six l at) ≡ s → read_field l at ≡ field_of s (at + 6)
-    go (Digits n) e = let f = scans_found (six l at) n e in rw (six_field l at h ∙ f.form, columns_six l at h, f.is)
-    go Blank e = none (λ n q. absurd (let z : ◌≡◌ {A = ℕ} 0 1 = cc in omega arith)) (is_numeral (after_spaces (six l at))) refl
-    go Bad e = none (λ n q. absurd (let z : ◌≡◌ {A = ℕ} 0 1 = cc in omega arith)) (is_numeral (after_spaces (six l at))) refl
+  pub field_found : (n : ℕ) → number_of (scans Blank (columns_at l at)) ≡ Some n → read_field l at ≡ Some (n, at + 6)
+  unfolding read_field is_field number ◌and◌
+  field_found n found = go (scans Blank (columns_at l at)) refl found
+    where
+      go : (s : Scan) → scans Blank (columns_at l at) ≡ s → number_of s ≡ Some n → read_field l at ≡ Some (n, at + 6)
+      go (Digits m) e q = let f = scans_found (columns_at l at) m e in let same : m ≡ n = cc in rw (six_columns, f.form, f.is, same)
+      go Blank e q = absurd (let z : ◌≡◌ {A = ℕ} 0 1 = cc in omega arith)
+      go Bad e q = absurd (let z : ◌≡◌ {A = ℕ} 0 1 = cc in omega arith)
+
+  pub field_missed : number_of (scans Blank (columns_at l at)) ≡ None → read_field l at ≡ None
+  unfolding read_field is_field ◌and◌
+  field_missed missed = go (is_numeral (after_spaces (columns_at l at))) refl
+    where
+      none : (n : ℕ) → ◌≡◌ {A = Option ℕ} (Some n) None → read_field l at ≡ None
+      none n q = absurd (let z : ◌≡◌ {A = ℕ} 0 1 = cc in omega arith)
+
+      go : (b : Bool) → is_numeral (after_spaces (columns_at l at)) ≡ b → read_field l at ≡ None
+      go false e = rw (six_columns, e)
+      go true e =
+          none (number (columns_at l at)) (subst (λ (s : Scan). number_of s ≡ None) (scans_numeral (columns_at l at) e) missed)
 
 -- a piece of a field, at the end of a file, is none
 pub field_cut : (l : List ℕ) (at : ℕ) → length l < at + 6 → is_field_at l at ≡ false
@@ -57,6 +73,15 @@ unfolding is_field ◌and◌
 field_cut l at h =
     rw (ne_eqb (length (columns_at l at)) 6 (λ (e : length (columns_at l at) ≡ 6). omega (arith, length-take 6 (drop at l), length-drop at l)))
 
-pub field_none : (l : List ℕ) (at : ℕ) → length l < at + 6 → read_field l at ≡ Misformed
+pub field_none : (l : List ℕ) (at : ℕ) → length l < at + 6 → read_field l at ≡ None
 unfolding read_field
 field_none l at h = rw (field_cut l at h)
+
+-- the columns as the code takes them: all bytes from the place on, and the first six of these; and where there are none
+pub columns_taken : (l : List ℕ) (at : ℕ) {rest columns : List ℕ} → rest ≡ slice_range l at (length l) → columns ≡ take 6 rest
+    → columns ≡ columns_at l at
+columns_taken l at {rest} {columns} e q = rw (q, e, ← length-drop at l, take-length (drop at l))
+
+pub place_missed : (l : List ℕ) (at : ℕ) → (length l < at) ⊎ (length l < length l) → read_field l at ≡ None
+place_missed l at (inl h) = field_none l at (omega arith)
+place_missed l at (inr h) = absurd (omega arith)

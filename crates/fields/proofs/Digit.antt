@@ -7,7 +7,7 @@ use native.Mathlib.Omega.{arith}
 use lib.Dec.{leb}
 use borrow.Author.Tests.{le-leb, lt-leb, leb-true}
 use Rattle.logic.specs.Test.{◌and◌, every}
-use Rattle.logic.proofs.Tests.{and_left, and_right, and_true}
+use Rattle.logic.proofs.Tests.{decided, and_left, and_right, and_true}
 use Rattle.fields.specs.Field.{is_digit, decimal, no_leading_zero, is_numeral}
 
 pub digit_within : (c : ℕ) → 48 ≤ c → c ≤ 57 → is_digit c ≡ true
@@ -21,6 +21,9 @@ digit_below c h = rw (lt-leb 48 c h)
 pub digit_above : (c : ℕ) → 57 < c → is_digit c ≡ false
 unfolding is_digit ◌and◌
 digit_above c h = rw (le-leb 48 c (omega arith), lt-leb c 57 h)
+
+-- what decides whether a byte is a digit
+pub ruleset digits = (decided, digit_within, digit_below, digit_above)
 
 pub digit_low : (c : ℕ) → is_digit c ≡ true → 48 ≤ c
 unfolding is_digit

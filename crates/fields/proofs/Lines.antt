@@ -1,6 +1,6 @@
 -- What reading a line answers, from the answers of its fields.
 use Prim.Native.Nat.{ℕ, ◌+◌, ◌*◌, ◌<◌, ◌≤◌}
-use mathlib.Core.Path.{◌≡◌, refl, sym}
+use mathlib.Core.Path.{◌≡◌, refl, sym, ap}
 use mathlib.Core.Bool.{Bool, true, false}
 use mathlib.Core.List.{List}
 use native.Mathlib.Omega.{arith}
@@ -13,8 +13,7 @@ use Rattle.logic.proofs.Tests.{all_more, all_fails}
 use Rattle.fields.specs.Field.{is_field_at, number_at}
 use Rattle.fields.specs.Line.{newline, is_line_at, line_length}
 use Rattle.fields.specs.Reading.{read_field, read_line}
-use Rattle.fields.specs.declared.Field.TheVariants.{Number, Misformed}
-use Rattle.fields.specs.declared.Line.TheVariants.{Next, Broken}
+use Rattle.std.specs.Prelude.{Option, Some, None}
 
 -- what the answer of a field tells
 record LineRight (l : List ℕ) (at n next : ℕ) : Type 0 where
@@ -22,21 +21,29 @@ record LineRight (l : List ℕ) (at n next : ℕ) : Type 0 where
   pub is : number_at l at ≡ n
   pub after : next ≡ at + 6
 
-field_right : (l : List ℕ) (at n next : ℕ) → read_field l at ≡ Number n next → LineRight l at n next
+field_right : (l : List ℕ) (at n next : ℕ) → read_field l at ≡ Some (n, next) → LineRight l at n next
 unfolding read_field
 field_right l at n next e = go (is_field_at l at) refl e
   where
-    go : (b : Bool) → is_field_at l at ≡ b → (if b then Number (number_at l at) (at + 6) else Misformed) ≡ Number n next → LineRight l at n next
-    go true f q = record { form = f; is = cc; after = cc }
+    found : Bool → Option (ℕ × ℕ)
+    found b = if b then Some (number_at l at, at + 6) else None
+
+    go : (b : Bool) → is_field_at l at ≡ b → found b ≡ Some (n, next) → LineRight l at n next
+    go true f q =
+        let both : (number_at l at, at + 6) ≡ (n, next) = cc in
+        record { form = f; is = ap (λ (p : ℕ × ℕ). p.0) both; after = sym (ap (λ (p : ℕ × ℕ). p.1) both) }
     go false f q = absurd (let z : ◌≡◌ {A = ℕ} 0 1 = cc in omega arith)
 
-field_wrong : (l : List ℕ) (at : ℕ) → read_field l at ≡ Misformed → is_field_at l at ≡ false
+field_wrong : (l : List ℕ) (at : ℕ) → read_field l at ≡ None → is_field_at l at ≡ false
 unfolding read_field
-field_wrong l at e = go (is_field_at l at) refl e
+field_wrong l at e = go (is_field_at l at) e
   where
-    go : (b : Bool) → is_field_at l at ≡ b → (if b then Number (number_at l at) (at + 6) else Misformed) ≡ Misformed → b ≡ false
-    go true f q = absurd (let z : ◌≡◌ {A = ℕ} 0 1 = cc in omega arith)
-    go false f q = refl
+    found : Bool → Option (ℕ × ℕ)
+    found b = if b then Some (number_at l at, at + 6) else None
+
+    go : (b : Bool) → found b ≡ None → b ≡ false
+    go true q = absurd (let z : ◌≡◌ {A = ℕ} 0 1 = cc in omega arith)
+    go false q = refl
 
 -- byte 10 stands before the file's end
 pub ended_within : (l : List ℕ) (place : ℕ) → eqb (get_or l place 0) newline ≡ true → place < length l
@@ -48,19 +55,19 @@ ended_within l place e = go (ltb place (length l)) refl
 
 -- what the answer of a line tells
 module _ (l : List ℕ) (at n : ℕ) where
-  pub line_right : (next : ℕ) → read_line l at n ≡ Next next → is_line_at l at n ≡ true
+  pub line_right : (next : ℕ) → read_line l at n ≡ Some next → is_line_at l at n ≡ true
   unfolding read_line
   line_right next e = go (is_line_at l at n) e
     where
-      go : (b : Bool) → (if b then Next (at + line_length n) else Broken) ≡ Next next → b ≡ true
+      go : (b : Bool) → (if b then Some (at + line_length n) else None) ≡ Some next → b ≡ true
       go true q = refl
       go false q = absurd (let z : ◌≡◌ {A = ℕ} 0 1 = cc in omega arith)
 
-  pub line_wrong : read_line l at n ≡ Broken → is_line_at l at n ≡ false
+  pub line_wrong : read_line l at n ≡ None → is_line_at l at n ≡ false
   unfolding read_line
   line_wrong e = go (is_line_at l at n) e
     where
-      go : (b : Bool) → (if b then Next (at + line_length n) else Broken) ≡ Broken → b ≡ false
+      go : (b : Bool) → (if b then Some (at + line_length n) else None) ≡ None → b ≡ false
       go true q = absurd (let z : ◌≡◌ {A = ℕ} 0 1 = cc in omega arith)
       go false q = refl
 
@@ -75,11 +82,11 @@ unfolding all
 fields_begin e = record { few = omega arith; here = omega arith; right = refl }
 
 module _ {l : List ℕ} {at n k place : ℕ} (read : FieldsRight l at n k place) where
-  pub fields_stop : k < n → read_field l place ≡ Misformed → is_line_at l at n ≡ false
+  pub fields_stop : k < n → read_field l place ≡ None → is_line_at l at n ≡ false
   unfolding is_line_at ◌and◌
   fields_stop h e = rw (all_fails (λ j. is_field_at l (at + 6 * j)) n k h (field_wrong l (at + 6 * k) (rw read.here at e)))
 
-  pub fields_go_on : k < n → {m next : ℕ} → read_field l place ≡ Number m next → FieldsRight l at n (k + 1) next
+  pub fields_go_on : k < n → {m next : ℕ} → read_field l place ≡ Some (m, next) → FieldsRight l at n (k + 1) next
   fields_go_on h {m} {next} e =
       let f = field_right l (at + 6 * k) m next (rw read.here at e) in
       record {
@@ -88,7 +95,7 @@ module _ {l : List ℕ} {at n k place : ℕ} (read : FieldsRight l at n k place)
         right = all_more (λ j. is_field_at l (at + 6 * j)) k read.right f.form;
       }
 
-  pub fields_number : {m next : ℕ} → read_field l place ≡ Number m next → m ≡ number_at l (at + 6 * k)
+  pub fields_number : {m next : ℕ} → read_field l place ≡ Some (m, next) → m ≡ number_at l (at + 6 * k)
   fields_number {m} {next} e = sym (field_right l (at + 6 * k) m next (rw read.here at e)).is
 
   -- byte 10 decides, r being whether it stands there

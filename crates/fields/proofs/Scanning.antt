@@ -10,6 +10,7 @@ use Rattle.logic.specs.Test.{◌and◌, every}
 use Rattle.std.specs.Prelude.{if◌then◌else◌}
 use Rattle.logic.proofs.Tests.{and_left, and_right, and_true}
 use Rattle.fields.specs.Field.{is_digit, after_spaces, decimal, no_leading_zero, is_numeral, number}
+use Rattle.std.specs.List.{fold}
 use Rattle.fields.specs.Scan.{extended, scan, scans}
 use Rattle.fields.specs.declared.Scan.{Scan}
 use Rattle.fields.specs.declared.Scan.TheVariants.{Blank, Digits, Bad}
@@ -26,6 +27,12 @@ bad_stays : (cs : List ℕ) (m : ℕ) → scans Bad cs ≡ Digits m → ⊥
 unfolding scans scan
 bad_stays [] m e = let z : ◌≡◌ {A = ℕ} 0 1 = cc in omega arith
 bad_stays (c ∷ cs) m e = bad_stays cs m e
+
+-- column after column, as a fold
+pub fold_scans : (s : Scan) (cs : List ℕ) → fold scan s cs ≡ scans s cs
+unfolding scans
+fold_scans s [] = refl
+fold_scans s (c ∷ cs) = fold_scans (scan s c) cs
 
 -- after a number: digits, each of which makes it longer
 more_digits : (cs : List ℕ) (n : ℕ) → (n ≡ 0 → cs ≡ []) → every is_digit cs ≡ true → decimal n cs ≤ 65535

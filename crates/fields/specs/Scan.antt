@@ -1,10 +1,8 @@
 -- How the code reads a field, column by column, and a field's number by low halves: it mirrors private functions and need not be
 -- believed. `read_field` and `number_at` are what a caller reads.
-use Rattle.std.specs.Prelude.{ℕ, ◌+◌, ◌-◌, ◌*◌, ◌%◌, List, [], ◌∷◌, eqb, leb, get_or}
+use Rattle.std.specs.Prelude.{ℕ, ◌+◌, ◌-◌, ◌*◌, ◌%◌, List, [], ◌∷◌, eqb, leb, get_or, Option, Some, None}
 use Rattle.std.specs.Prelude.{if◌then◌else◌}
 use Rattle.fields.specs.Field.{space, digit0, is_digit}
-use Rattle.fields.specs.declared.Field.{Field}
-use Rattle.fields.specs.declared.Field.TheVariants.{Number, Misformed}
 use Rattle.fields.specs.declared.Scan.{Scan}
 use Rattle.fields.specs.declared.Scan.TheVariants.{Blank, Digits, Bad}
 
@@ -24,10 +22,11 @@ unfoldable pub scans : Scan → List ℕ → Scan
 scans s [] = s
 scans s (c ∷ cs) = scans (scan s c) cs
 
-abbrev pub field_of : Scan → ℕ → Field
-field_of Blank next = Misformed
-field_of (Digits n) next = Number n next
-field_of Bad next = Misformed
+-- the number that columns are
+abbrev pub number_of : Scan → Option ℕ
+number_of Blank = None
+number_of (Digits n) = Some n
+number_of Bad = None
 
 -- a right field's number by the low halves of its last five bytes
 abbrev pub low_number : List ℕ → ℕ → ℕ

@@ -7,24 +7,10 @@ ghost use Rattle.logic.specs.Test.{all};
 ghost use Rattle.fields.specs.Field.{is_field_at, number_at};
 ghost use Rattle.fields.specs.Line.{newline};
 ghost use Rattle.fields.specs.Reading.{read_field, read_line};
-ghost use Rattle.fields.specs.Scan.{extended, scan, field_of, low_number};
-
-// What stands at a place: a number with the place after it, or no right field.
-#[derive(Drop)]
-pub enum Field {
-    Number(u16, usize),
-    Misformed,
-}
-
-// The place after a right line, or no right line.
-#[derive(Drop)]
-pub enum Line {
-    Next(usize),
-    Broken,
-}
+ghost use Rattle.fields.specs.Scan.{extended, scan, scans, number_of, low_number};
 
 // What the columns passed so far are: spaces alone, a number, or the beginning of no right field.
-#[derive(Drop)]
+#[derive(Clone, Copy, Debug, PartialEq, Eq)]
 pub enum Scan {
     Blank,
     Digits(u16),
@@ -32,46 +18,41 @@ pub enum Scan {
 }
 
 // A digit after the number n. 0 begins no other number, and no number is above 65535.
+#[tactic(auto, using(logic::proofs::Tests::decided), unfolding(crate::specs::Scan::extended))]
 fn extend(n: u16, digit: u8) -> Scan
     ensures { result ≡ extended n digit }
 {
     if n == 0 {
         return Scan::Bad;
     }
-    let next = 10 * (n as u32) + (digit as u32);
-    if next <= 65535 {
-        return Scan::Digits(next as u16);
+    let next = 10 * u32::from(n) + u32::from(digit);
+    match u16::try_from(next) {
+        Ok(number) => Scan::Digits(number),
+        Err(_) => Scan::Bad,
     }
-    Scan::Bad
 }
 
 // The column c after spaces alone.
+#[tactic(auto, using(crate::proofs::Digit::digits), unfolding(crate::specs::Scan::scan))]
 fn first_column(c: u8) -> Scan
     ensures { result ≡ scan Scan.Blank c }
 {
-    if c == 32 {
-        return Scan::Blank;
+    match c {
+        b' ' => Scan::Blank,
+        b'0'..=b'9' => Scan::Digits(u16::from(c - b'0')),
+        _ => Scan::Bad,
     }
-    if c < 48 {
-        return Scan::Bad;
-    }
-    if 57 < c {
-        return Scan::Bad;
-    }
-    Scan::Digits((c - 48) as u16)
 }
 
 // The column c after the number n.
+#[tactic(auto, using(crate::proofs::Digit::digits), unfolding(crate::specs::Scan::scan))]
 fn next_column(n: u16, c: u8) -> Scan
     ensures { result ≡ scan (Scan.Digits n) c }
 {
-    if c < 48 {
-        return Scan::Bad;
+    match c {
+        b'0'..=b'9' => extend(n, c - b'0'),
+        _ => Scan::Bad,
     }
-    if 57 < c {
-        return Scan::Bad;
-    }
-    extend(n, c - 48)
 }
 
 fn scan_column(state: Scan, c: u8) -> Scan
@@ -84,69 +65,62 @@ fn scan_column(state: Scan, c: u8) -> Scan
     }
 }
 
-// What six columns are, the next place being given.
-fn field_of(state: Scan, next: usize) -> Field
-    ensures { result ≡ field_of state next }
+// The number that columns are, where they are one.
+fn number_of(state: Scan) -> Option<u16>
+    ensures { result ≡ number_of state }
 {
     match state {
-        Scan::Digits(n) => Field::Number(n, next),
-        Scan::Blank => Field::Misformed,
-        Scan::Bad => Field::Misformed,
+        Scan::Digits(n) => Some(n),
+        Scan::Blank | Scan::Bad => None,
     }
 }
 
-// The field at a place. Nothing is read past the slice's end.
-pub fn read_field(s: &[u8], at: usize) -> Field
+// What the columns of a field are.
+fn scan_columns(columns: &[u8; 6]) -> Scan
+    ensures { result ≡ scans Scan.Blank columns.now }
+{
+    columns
+        .iter()
+        .fold(Scan::Blank, |state, &c| scan_column(state, c))
+}
+
+// The field at a place: its number with the place after it, or none that is right. Nothing is read past the slice's end.
+pub fn read_field(s: &[u8], at: usize) -> Option<(u16, usize)>
     ensures { result ≡ read_field s.now at }
 {
-    if s.len() < 6 {
-        return Field::Misformed;
-    }
-    if s.len() - 6 < at {
-        return Field::Misformed;
-    }
-    let a = scan_column(Scan::Blank, s[at]);
-    let b = scan_column(a, s[at + 1]);
-    let c = scan_column(b, s[at + 2]);
-    let d = scan_column(c, s[at + 3]);
-    let e = scan_column(d, s[at + 4]);
-    field_of(scan_column(e, s[at + 5]), at + 6)
+    let columns = s.get(at..)?.first_chunk::<6>()?;
+    let number = number_of(scan_columns(columns))?;
+    Some((number, at + 6))
 }
 
 // Byte 10 stands at a place.
 pub fn ends_line(s: &[u8], at: usize) -> bool
     ensures { result ≡ eqb (get_or s.now at 0) newline }
 {
-    if s.len() <= at {
-        return false;
-    }
-    s[at] == 10
+    at < s.len() && s[at] == b'\n'
 }
 
-// The line of `count` fields at a place: each field in turn, then byte 10.
-pub fn read_line(s: &[u8], at: usize, count: usize) -> Line
+// The line of `count` fields at a place, each field in turn and then byte 10: the place after it, or none that is right.
+pub fn read_line(s: &[u8], at: usize, count: usize) -> Option<usize>
     ensures { result ≡ read_line s.now at count }
 {
     let mut place = at;
-    let mut k: usize = 0;
-    while k < count {
-        let Field::Number(_, next) = read_field(s, place) else {
-            return Line::Broken;
-        };
+    for _ in 0..count {
+        let (_, next) = read_field(s, place)?;
         place = next;
-        k += 1;
     }
     if ends_line(s, place) {
-        return Line::Next(place + 1);
+        Some(place + 1)
+    } else {
+        None
     }
-    Line::Broken
 }
 
 // The low half of a byte: of a digit its value, of a space 0.
 fn low_half(c: u8) -> u32
     ensures { (result ≡ c % 16) × (result ≤ 15) }
 {
-    (c % 16) as u32
+    u32::from(c % 16)
 }
 
 // What the low halves of a field's last five columns spell.
@@ -172,12 +146,5 @@ pub fn zeros_at(s: &[u8], at: usize, count: usize) -> bool
     requires { (k : ℕ) → k < count → is_field_at s.now (at + 6 * k) ≡ true }
     ensures { result ≡ all count (λ k. eqb (number_at s.now (at + 6 * k)) 0) }
 {
-    let mut k: usize = 0;
-    while k < count {
-        if number_at(s, at + 6 * k) != 0 {
-            return false;
-        }
-        k += 1;
-    }
-    true
+    (0..count).all(|k| number_at(s, at + 6 * k) == 0)
 }

@@ -1,16 +1,22 @@
--- Where six bytes remain, scanning them in order reads the field (`field_found`); where fewer do, it is misformed (`field_none`).
-use mathlib.Core.Path.{sym, ◌∙◌}
-use native.Mathlib.Omega.{arith}
-use Rattle.fields.specs.Scan.{scans}
-use Rattle.fields.proofs.Columns.{field_found, field_none}
+-- The six columns are those of the place (`columns_taken`). Where scanning them finds a number, it is the field's (`field_found`); where it
+-- finds none, or fewer than six remain, there is no right field (`field_missed`, `field_none`).
+use Rattle.std.proofs.Common.{arith, sym, ◌∙◌}
+use Rattle.fields.proofs.Columns.{field_found, field_missed, field_none, columns_taken, place_missed}
 use Rattle.fields.proofs.read_field.Goals as goal
 
-pub returns-then-s-lt6 : goal.returns-then-s-lt6
-returns-then-s-lt6 c = sym (field_none _ _ (omega arith))
+pub returns-in_err-get : goal.returns-in_err-get
+returns-in_err-get c = c.from_residual.ensures ∙ sym (place_missed _ _ c.in_err-get.ensures.lookup.0)
 
-pub returns-then-s-at : goal.returns-then-s-at
-returns-then-s-at c = sym (field_none _ _ (omega arith))
+pub returns-in_err-columns : goal.returns-in_err-columns
+returns-in_err-columns c =
+    c.from_residual-in_err-columns.ensures ∙ sym (field_none _ _ (omega (arith, c.in_err-columns.ensures.cases, c.in_ok-get.ensures.lookup.0.3)))
+
+pub returns-in_err-number : goal.returns-in_err-number
+returns-in_err-number c =
+    let same = columns_taken c.args.s.now c.args.at c.in_ok-get.ensures.lookup.0.2 c.in_ok-columns.ensures.cases.same in
+    c.from_residual-in_err-number.ensures ∙ sym (field_missed _ _ (omega (arith, c.in_ok-columns.ensures.cases.enough, c.in_ok-get.ensures.lookup.0.3)) (rw (← same, ← c.scan_columns.ensures) (sym c.number_of.ensures ∙ c.in_err-number.was)))
 
 pub returns : goal.returns
-unfolding scans
-returns c = sym (field_found _ _ (omega arith) ∙ (cc))
+returns c =
+    let same = columns_taken c.args.s.now c.args.at c.in_ok-get.ensures.lookup.0.2 c.in_ok-columns.ensures.cases.same in
+    sym (field_found _ _ (omega (arith, c.in_ok-columns.ensures.cases.enough, c.in_ok-get.ensures.lookup.0.3)) _ (rw (← same, ← c.scan_columns.ensures) (sym c.number_of.ensures ∙ c.in_ok-number.was)))
