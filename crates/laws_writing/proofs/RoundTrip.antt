@@ -14,8 +14,7 @@ use Rattle.fields.specs.Field.{columns_at, is_field_at, number_at, number}
 use Rattle.fields.specs.Line.{is_line_at, newline, line_length}
 use Rattle.fields.specs.Numbers.{numbers_at}
 use Rattle.fields.specs.Reading.{read_field, read_line}
-use Rattle.fields.specs.declared.Field.TheVariants.{Number}
-use Rattle.fields.specs.declared.Line.TheVariants.{Next}
+use Rattle.std.specs.Prelude.{Some}
 use Rattle.writing.specs.Text.{field_text, line_text}
 use Rattle.laws_writing.proofs.Spelling.{right_text, text_right, Readable}
 use Rattle.writing.proofs.Writing.{length_text, length_fields}
@@ -31,7 +30,7 @@ columns_written pre post n at e =
 
 -- A field that was written is read back, wherever it stands
 pub field_read_back : (pre post : List ℕ) (n : ℕ) → n ≤ 65535
-    → read_field (pre ++ (field_text n ++ post)) (length pre) ≡ Number n (length pre + 6)
+    → read_field (pre ++ (field_text n ++ post)) (length pre) ≡ Some (n, length pre + 6)
 unfolding read_field
 field_read_back pre post n l =
     let t = text_right n l in
@@ -79,7 +78,7 @@ module _ {ns : List ℕ} (s : Small ns) (pre post : List ℕ) where
       (get_or-append_seam (flat_map field_text ns) newline post 0)
 
   -- A line that was written is read back, wherever it stands
-  pub line_read_back : read_line file (length pre) (length ns) ≡ Next (length pre + line_length (length ns))
+  pub line_read_back : read_line file (length pre) (length ns) ≡ Some (length pre + line_length (length ns))
   unfolding read_line is_line_at ◌and◌
   line_read_back =
       rw (

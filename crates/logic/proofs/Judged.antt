@@ -91,3 +91,23 @@ module _ (x y : ℕ) (rest : Bool) where
 
   pub low_goes_on : x < y → ltb x y and rest ≡ rest
   low_goes_on h = yes (ltb x y) rest (lt-ltb x y h)
+
+-- what `&&` and `||` of the code come to, by the first operand
+pub and_when_true : (b : Bool) → true and b ≡ b
+unfolding ◌and◌
+and_when_true b = refl
+
+pub and_when_false : (b : Bool) → false and b ≡ false
+unfolding ◌and◌
+and_when_false b = refl
+
+pub or_when_true : (b : Bool) → true or b ≡ true
+unfolding ◌or◌
+or_when_true b = refl
+
+pub or_when_false : (b : Bool) → false or b ≡ b
+unfolding ◌or◌
+or_when_false b = refl
+
+-- a test by cases of the code
+pub ruleset connected = (eq-eqb, ne_eqb, lt-ltb, le-ltb, le-leb, lt-leb, and_when_true, and_when_false, or_when_true, or_when_false)

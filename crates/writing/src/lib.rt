@@ -8,17 +8,16 @@ ghost use Rattle.fields.specs.Line.{line_length};
 ghost use Rattle.writing.specs.Text.{column_of, field_text, line_text};
 
 // The byte of n's column of the given weight.
+#[tactic(auto, using(logic::proofs::Judged::connected), unfolding(crate::specs::Text::column_of))]
 fn column(n: u16, weight: u16) -> u8
     requires { 0 < weight }
     ensures { result ≡ column_of n weight }
 {
-    if weight <= n {
-        return (48 + n / weight % 10) as u8;
+    if weight <= n || weight == 1 {
+        b'0' + (n / weight % 10) as u8
+    } else {
+        b' '
     }
-    if weight == 1 {
-        return 48;
-    }
-    32
 }
 
 // n's field, written at a place. The column of weight 100000 is above every number.
@@ -26,7 +25,7 @@ pub fn write_field(out: &mut [u8], at: usize, n: u16)
     requires { at + 6 ≤ length out.old }
     ensures { out.new ≡ sets out.old at (field_text n) }
 {
-    out[at] = 32;
+    out[at] = b' ';
     out[at + 1] = column(n, 10000);
     out[at + 2] = column(n, 1000);
     out[at + 3] = column(n, 100);
@@ -41,12 +40,10 @@ pub fn write_line(out: &mut [u8], at: usize, numbers: &[u16]) -> usize
     ensures out_after { out.new ≡ sets out.old at (line_text numbers.now) }
 {
     let mut place = at;
-    let mut k = 0;
-    while k < numbers.len() {
-        write_field(out, place, numbers[k]);
+    for &number in numbers {
+        write_field(out, place, number);
         place += 6;
-        k += 1;
     }
-    out[place] = 10;
+    out[place] = b'\n';
     place + 1
 }

@@ -1,22 +1,19 @@
--- The invariant: the fields of the first k numbers are written, and `place` is after them. Byte 10 ends the line (`line_stored`).
-use mathlib.Core.Path.{◌∙◌}
+-- Each field goes behind the last (`fields_more`), and byte 10 ends the line (`line_stored`).
+use Rattle.std.proofs.Common.{arith, rules, ◌∙◌}
 use mathlib.Core.List.{flat_map}
-use native.Mathlib.Omega.{arith}
 use Rattle.writing.proofs.Writing.{fields_more, line_stored}
-use borrow.Author.Rules.{rules}
 use Rattle.writing.proofs.write_line.Goals as goal
 
-pub loop-k-init : goal.loop-k-init
+pub loop-number-init : goal.loop-number-init
 unfolding flat_map
-loop-k-init c = search rules
+loop-number-init c = search rules
 
-pub loop-k-preserved : goal.loop-k-preserved
-loop-k-preserved c = (
-  omega arith,
-  omega arith,
-  c.write_field.auto.out ∙ c.loop-k.invariant.2,
-  c.write_field.ensures ∙ fields_more _ _ _ _ _ _ c.loop-k.invariant.3 c.loop-k-test.true c.loop-k.invariant.1,
-)
+pub loop-number-preserved : goal.loop-number-preserved
+loop-number-preserved c =
+    let before = c.loop-number.invariant in
+    (omega (arith, before.0), c.write_field.ensures ∙ fields_more _ _ _ _ _ _ before.1 c.loop-number-test.true before.0)
 
 pub returns-clause-out_after : goal.returns-clause-out_after
-returns-clause-out_after c = line_stored _ _ _ _ _ _ c.loop-k.invariant.3 (omega arith) c.loop-k.invariant.1
+returns-clause-out_after c =
+    let before = c.loop-number.invariant in
+    line_stored _ _ _ _ _ _ before.1 (omega (arith, c.loop-number-test.false, c.loop-number.auto.number-index-end)) before.0
