@@ -1,4 +1,5 @@
 pub mod Zeros
+pub mod Held
 pub mod Stores
 pub mod Ranking
 pub mod Passing

@@ -1,12 +1,12 @@
 -- What is read after a store, and from a list of zeros.
 use Prim.Native.Nat.{ℕ, zero, suc, ◌<◌}
-use mathlib.Core.Path.{◌≡◌, refl, sym, subst, ap, ◌∙◌}
+use mathlib.Core.Path.{◌≡◌, refl, sym, subst}
 use mathlib.Core.Bool.{Bool, true, false}
-use mathlib.Core.List.{List, ◌++◌, append-nil}
+use mathlib.Core.List.{List}
 use mathlib.Core.Logic.{◌⊎◌, inl, inr, ⊎_elim}
 use lib.Dec.{eqb}
-use lib.ListN.{length, get_or, set, drop, replicate}
-use lib.Seq.{get_or-set_same, get_or-set_other, drop-length}
+use lib.ListN.{length, get_or, set, replicate}
+use lib.Seq.{get_or-set_same, get_or-set_other}
 use borrow.Author.Tests.{eqb-true, eqb-false}
 
 pub equal_or_not : (a b : ℕ) → (a ≡ b) ⊎ (a ≡ b → ⊥)
@@ -29,10 +29,3 @@ pub all_zero : (n i : ℕ) → ◌≡◌ {A = ℕ} (get_or (replicate n 0) i 0) 
 all_zero zero i = refl
 all_zero (suc n) zero = refl
 all_zero (suc n) (suc i) = all_zero n i
-
--- every element is a 0
-pub cleared : (l m : List ℕ) (k : ℕ) → k ≡ length l → m ≡ replicate k 0 ++ drop k l → m ≡ replicate (length l) 0
-cleared l m k e q =
-    q ∙ ap (λ (n : ℕ). replicate n 0 ++ drop n l) e
-    ∙ ap (λ (r : List ℕ). replicate (length l) 0 ++ r) (drop-length l)
-    ∙ append-nil (replicate (length l) 0)

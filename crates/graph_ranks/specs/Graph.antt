@@ -1,5 +1,5 @@
 -- A graph of nodes 1, 2, .. as a list of numbers: the entry 4 * y + j, j from 0 to 3, is a node that feeds y, or 0 where there is none.
-use Rattle.std.specs.Prelude.{ℕ, ◌+◌, ◌*◌, ◌≤◌, ◌<◌, ◌≡◌, Bool, true, false, List, length, get_or}
+use Rattle.std.specs.Prelude.{ℕ, ◌+◌, ◌*◌, ◌≤◌, ◌<◌, ◌≡◌, Bool, true, false, List, length, get_or, Option, MatchOption}
 
 -- places for nodes: 0, which is none, and 1 to 4096
 abbrev pub places : ℕ
@@ -38,7 +38,7 @@ pub record Entries (edges : List ℕ) (size : ℕ) : Type 0 where
   pub within : (i : ℕ) → get_or edges i 0 ≤ size
 
 -- a graph of `size` nodes, in which only nodes that are followed feed others
-pub record Graph (follow edges : List ℕ) (size : ℕ) : Type 0 where
+pub record IsGraph (follow edges : List ℕ) (size : ℕ) : Type 0 where
   pub each : Entries edges size
   pub long : length follow ≡ places
   pub feeders : (x y : ℕ) → Edge edges x y → get_or follow x 0 ≡ 1
@@ -48,9 +48,17 @@ pub record Decides (P : Type 0) (answer : Bool) : Type 0 where
   pub holds : answer ≡ true → P
   pub fails : answer ≡ false → P → ⊥
 
--- 0 where no node of 1 to size is on a loop, else the smallest that is
-pub record FirstLoop (edges : List ℕ) (size r : ℕ) : Type 0 where
-  pub none : r ≡ 0 → (s : ℕ) → 1 ≤ s → s ≤ size → Loops edges s → ⊥
-  pub node : r ≤ size
-  pub loops : 1 ≤ r → Loops edges r
+-- the smallest node of 1 to size that is on a loop
+pub record SmallestLoop (edges : List ℕ) (size r : ℕ) : Type 0 where
+  pub low : 1 ≤ r
+  pub high : r ≤ size
+  pub loops : Loops edges r
   pub smallest : (s : ℕ) → 1 ≤ s → s < r → Loops edges s → ⊥
+
+-- no node of 1 to size is on a loop
+abbrev pub NoLoops : List ℕ → ℕ → Type 0
+NoLoops edges size = (s : ℕ) → 1 ≤ s → s ≤ size → Loops edges s → ⊥
+
+-- None where no node of 1 to size is on a loop, else the smallest that is
+abbrev pub FirstLoop : List ℕ → ℕ → Option ℕ → Type 0
+FirstLoop edges size r = MatchOption r (NoLoops edges size) (SmallestLoop edges size)

@@ -1,4 +1,5 @@
 pub mod Graph
+pub mod Held
 pub mod Zeros
 pub mod Ranks
 pub mod Passes

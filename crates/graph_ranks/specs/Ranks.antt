@@ -19,6 +19,16 @@ pub record RanksRight (follow edges : List ℕ) (size : ℕ) (ranks : List ℕ) 
   pub grounded : (x y : ℕ) → 1 ≤ get_or ranks y 0 → Edge edges x y → 1 ≤ get_or ranks x 0
   pub exact : (y : ℕ) → 1 ≤ get_or ranks y 0 → get_or ranks y 0 ≡ highest edges ranks y + 1
 
+-- each of the first j feeders of y has a rank, and h is one more than the highest of these
+pub record RankAbove (edges ranks : List ℕ) (y j h : ℕ) : Type 0 where
+  pub ranked : (k : ℕ) → k < j → 1 ≤ get_or edges (4 * y + k) 0 → 1 ≤ get_or ranks (get_or edges (4 * y + k) 0) 0
+  pub is : h ≡ highest_to edges ranks y j + 1
+
+-- x feeds y and has no rank
+pub record OpenAt (edges ranks : List ℕ) (y x : ℕ) : Type 0 where
+  pub edge : Edge edges x y
+  pub unranked : get_or ranks x 0 ≡ 0
+
 -- a feeder of y that has no rank
 pub record OpenFeeder (edges ranks : List ℕ) (y : ℕ) : Type 0 where
   pub feeder : ℕ
