@@ -1,5 +1,5 @@
 -- A visit that ranks a node keeps the ranks right and leaves fewer nodes without one; where a pass ranks none, every node is ranked that can be.
-use Prim.Native.Nat.{ℕ, ◌+◌, ◌≤◌, ◌<◌}
+use Prim.Native.Nat.{ℕ, ◌+◌, ◌≤◌}
 use mathlib.Core.Path.{◌≡◌, sym, subst, ap, ◌∙◌}
 use mathlib.Core.Bool.{Bool, true, false, true≢false}
 use mathlib.Core.List.{List}
@@ -7,22 +7,34 @@ use native.Mathlib.Omega.{arith}
 use lib.ListN.{length, get_or, set, replicate, length-replicate}
 use Rattle.graph_ranks.specs.Graph.{places, Followed}
 use Rattle.graph_ranks.specs.Ranks.{RankAbove, Ranked}
-use Rattle.graph_ranks.specs.Passes.{RankedSoFar, Visited, Passed}
+use Rattle.graph_ranks.specs.declared.Graph.{Graph}
+use Rattle.graph_ranks.specs.Passes.{RankedSoFar}
+use Rattle.graph_ranks.specs.Methods.{SomeRanked, Visited, Passed}
 use Rattle.graph_ranks.proofs.Zeros.{zeros_filled, zeros_length}
 use Rattle.graph_ranks.proofs.Stores.{all_zero}
 use Rattle.graph_ranks.proofs.Ranking.{rank_small, store_so_far}
 
--- y gets the rank h
-pub visit_new : {follow edges : List ℕ} {size : ℕ} {ranks : List ℕ} → RankedSoFar follow edges size ranks → (y h : ℕ) → size < places
-    → Followed follow size y → get_or ranks y 0 ≡ 0 → RankAbove edges ranks y 4 h → Visited follow edges size y ranks (set ranks y h) true
-visit_new {ranks = ranks} s y h small f unranked above = record {
-  so_far = store_so_far s y h small f unranked above;
-  fewer = λ _. omega (arith, zeros_filled ranks y h (omega (arith, s.long, f.high)) unranked (omega (arith, above.is)));
-  same = λ e. absurd (true≢false e);
-  still = λ e. absurd (true≢false e);
-}
+module _ (g : Graph) where
+  -- y gets the rank h
+  pub visit_new : {ranks : List ℕ} → SomeRanked g ranks → (y h : ℕ) → Followed g.follow.now g.size y → get_or ranks y 0 ≡ 0
+      → RankAbove g.edges.now ranks y 4 h → Visited g y ranks (set ranks y h) true
+  visit_new {ranks} s y h f unranked above = record {
+    so_far = store_so_far s y h g.is_graph.each.small f unranked above;
+    fewer = λ _. omega (arith, zeros_filled ranks y h (omega (arith, s.long, g.is_graph.each.small, f.high)) unranked (omega (arith, above.is)));
+    same = λ e. absurd (true≢false e);
+    still = λ e. absurd (true≢false e);
+  }
 
--- before the first pass, and after the last
+  -- a pass ranked none
+  pub all_ranked : {before ranks : List ℕ} {gained : Bool} → Passed g (g.size + 1) before ranks gained → gained ≡ false
+      → Ranked g.follow.now g.edges.now g.size ranks
+  all_ranked p e = record {
+    right = p.so_far.right;
+    rest = λ y f. p.still e y (omega (arith, f.high)) f;
+    small = rank_small p.so_far;
+  }
+
+-- before the first pass
 none_ranked : (follow edges : List ℕ) (size : ℕ) → RankedSoFar follow edges size (replicate places 0)
 none_ranked follow edges size = record {
   long = length-replicate {A = ℕ} places 0;
@@ -41,11 +53,3 @@ pub start_ranked : (follow edges : List ℕ) (size : ℕ) (l ranks : List ℕ) �
     → RankedSoFar follow edges size ranks
 start_ranked follow edges size l ranks e q =
     subst (RankedSoFar follow edges size) (sym (q ∙ ap (λ (n : ℕ). replicate n 0) e)) (none_ranked follow edges size)
-
-pub all_ranked : {follow edges : List ℕ} {size : ℕ} {before ranks : List ℕ} {gained : Bool}
-    → Passed follow edges size (size + 1) before ranks gained → gained ≡ false → Ranked follow edges size ranks
-all_ranked p e = record {
-  right = p.so_far.right;
-  rest = λ y f. p.still e y (omega (arith, f.high)) f;
-  small = rank_small p.so_far;
-}

@@ -4,3 +4,4 @@ pub mod Zeros
 pub mod Ranks
 pub mod Passes
 pub mod Descent
+pub mod Methods

@@ -1,5 +1,5 @@
--- How the code ranks nodes, pass by pass: what private functions do, and `Ranked` is what a caller reads.
-use Rattle.std.specs.Prelude.{ℕ, ◌+◌, ◌≤◌, ◌<◌, ◌≡◌, Bool, true, false, List, length, get_or}
+-- Ranks on the way to `Ranked`: some nodes have theirs, and others may get one yet.
+use Rattle.std.specs.Prelude.{ℕ, ◌+◌, ◌≤◌, ◌≡◌, List, length, get_or}
 use Rattle.graph_ranks.specs.Graph.{places, Followed}
 use Rattle.graph_ranks.specs.Zeros.{zeros}
 use Rattle.graph_ranks.specs.Ranks.{RanksRight, OpenFeeder}
@@ -13,17 +13,3 @@ pub record RankedSoFar (follow edges : List ℕ) (size : ℕ) (ranks : List ℕ)
 -- where y is followed and has no rank, a feeder of it has none
 abbrev pub OpenNode : List ℕ → List ℕ → ℕ → List ℕ → ℕ → Type 0
 OpenNode follow edges size ranks y = Followed follow size y → get_or ranks y 0 ≡ 0 → OpenFeeder edges ranks y
-
--- y is visited: where it gained a rank, fewer nodes have none, and else ranks are as they were and y could not have one
-pub record Visited (follow edges : List ℕ) (size y : ℕ) (before after : List ℕ) (gained : Bool) : Type 0 where
-  pub so_far : RankedSoFar follow edges size after
-  pub fewer : gained ≡ true → zeros after < zeros before
-  pub same : gained ≡ false → after ≡ before
-  pub still : gained ≡ false → OpenNode follow edges size after y
-
--- the nodes below k are visited: where some gained a rank, fewer nodes have none, and else none of them could have one
-pub record Passed (follow edges : List ℕ) (size k : ℕ) (before after : List ℕ) (gained : Bool) : Type 0 where
-  pub so_far : RankedSoFar follow edges size after
-  pub most : zeros after ≤ zeros before
-  pub fewer : gained ≡ true → zeros after < zeros before
-  pub still : gained ≡ false → (y : ℕ) → y < k → OpenNode follow edges size after y

@@ -5,8 +5,7 @@
 ghost use Rattle.std.specs.Prelude.{◌≡◌, ◌+◌, ◌*◌, ◌<◌, ◌≤◌, List, [], length, get_or, MatchOption};
 ghost use Rattle.graph_ranks.specs.Graph.{places, IsGraph};
 ghost use Rattle.graph_ranks.specs.Ranks.{OpenFeeder, OpenAt, Ranked, RankAbove};
-ghost use Rattle.graph_ranks.specs.Passes.{RankedSoFar, Visited, Passed};
-ghost use Rattle.graph_ranks.specs.Descent.{Nodes, lined_up, Descended};
+ghost use Rattle.graph_ranks.specs.Descent.{Nodes, lined_up};
 
 mod stack;
 
@@ -33,6 +32,8 @@ pub struct Graph<'a> {
 }
 
 impl<'a> Graph<'a> {
+    ghost use Rattle.graph_ranks.specs.Methods.{SomeRanked, Visited, Passed, Descended};
+
     // The feeder that entry j of the node names, or 0 for none.
     pub fn feeder(&self, node: usize, j: usize) -> u16
         requires within { (node ≤ self.now.size) × (j < 4) }
@@ -44,7 +45,7 @@ impl<'a> Graph<'a> {
 
     // The rank above the feeders of the node, where each has one.
     fn rank_above(&self, ranks: &[u16], node: usize) -> Option<u16>
-        requires ranked_so_far { RankedSoFar self.now.follow.now self.now.edges.now self.now.size ranks.now }
+        requires ranked_so_far { SomeRanked self.now ranks.now }
         requires node_le_size { node ≤ self.now.size }
         ensures { MatchOption result (OpenFeeder self.now.edges.now ranks.now node) (RankAbove self.now.edges.now ranks.now node 4) }
     {
@@ -65,9 +66,9 @@ impl<'a> Graph<'a> {
 
     // The node is visited: it gets its rank, if it is followed, has none yet, and each of its feeders has one. Did it?
     fn visit(&self, ranks: &mut [u16], node: usize) -> bool
-        requires ranked_so_far { RankedSoFar self.now.follow.now self.now.edges.now self.now.size ranks.old }
-        requires node { (1 ≤ node) × (node ≤ self.now.size) }
-        ensures { Visited self.now.follow.now self.now.edges.now self.now.size node ranks.old ranks.new result }
+        requires ranked_so_far { SomeRanked self.now ranks.old }
+        requires is_node { (1 ≤ node) × (node ≤ self.now.size) }
+        ensures { Visited self.now node ranks.old ranks.new result }
     {
         if ranks[node] != 0 || self.follow[node] != 1 {
             return false;
@@ -81,8 +82,8 @@ impl<'a> Graph<'a> {
 
     // A pass: each node is visited in turn. Did some get a rank?
     fn visit_all(&self, ranks: &mut [u16]) -> bool
-        requires ranked_so_far { RankedSoFar self.now.follow.now self.now.edges.now self.now.size ranks.old }
-        ensures { Passed self.now.follow.now self.now.edges.now self.now.size (self.now.size + 1) ranks.old ranks.new result }
+        requires ranked_so_far { SomeRanked self.now ranks.old }
+        ensures { Passed self.now (self.now.size + 1) ranks.old ranks.new result }
     {
         let mut some = false;
         for node in 1..=self.size {
@@ -111,10 +112,11 @@ impl<'a> Graph<'a> {
     // A step of the descent: from the node that stood on top of the way to a feeder that has no rank, or, where each has
     // one, the node is visited and left.
     fn descend(&self, ranks: &mut [u16], way: &mut Stack<WAY>, node: u16)
-        requires ranked_so_far { RankedSoFar self.now.follow.now self.now.edges.now self.now.size ranks.old }
-        requires nodes { (1 ≤ node) × (node ≤ self.now.size) × Nodes self.now.size way.old }
+        requires ranked_so_far { SomeRanked self.now ranks.old }
+        requires is_node { (1 ≤ node) × (node ≤ self.now.size) }
+        requires nodes_on_way { Nodes self.now.size way.old }
         requires room { length way.old + 2 ≤ 16384 }
-        ensures { Descended self.now.follow.now self.now.edges.now self.now.size way.old ranks.new way.new }
+        ensures { Descended self.now ranks.new way.old way.new }
     {
         let open = self.open_feeder(ranks, usize::from(node));
         if let Some(feeder) = open {
@@ -139,8 +141,8 @@ impl<'a> Graph<'a> {
     // the node stands at first, one down to it and one back. Where there is a loop, the steps run out on it, and passes
     // rank what is left.
     fn rank_deep(&self, ranks: &mut [u16])
-        requires ranked_so_far { RankedSoFar self.now.follow.now self.now.edges.now self.now.size ranks.old }
-        ensures { RankedSoFar self.now.follow.now self.now.edges.now self.now.size ranks.new }
+        requires ranked_so_far { SomeRanked self.now ranks.old }
+        ensures { SomeRanked self.now ranks.new }
     {
         let mut way: Stack<WAY> = Stack::new();
         self.line_up(&mut way);

@@ -7,4 +7,4 @@ pub rank_deep-requires : goal.rank_deep-requires
 rank_deep-requires c = record { ranked_so_far = start_ranked _ _ _ c.args.ranks.now _ c.requires.ranks_len (search rules) }
 
 pub returns : goal.returns
-returns c = all_ranked c.visit_all.ensures c.passes-test.false
+returns c = all_ranked c.args.self.now c.visit_all.ensures c.passes-test.false
