@@ -1,13 +1,11 @@
 -- A node that has a rank is on no loop, since ranks rise along edges; and one that is not followed is on none, since it feeds nothing.
-use Prim.Native.Nat.{ℕ, ◌+◌, ◌≤◌, ◌<◌}
+use Prim.Native.Nat.{ℕ, ◌≤◌, ◌<◌}
 use mathlib.Core.Path.{◌≡◌, sym, subst}
-use mathlib.Core.Bool.{Bool, true, false, true≢false}
+use mathlib.Core.Bool.{false, true≢false}
 use mathlib.Core.List.{List}
-use mathlib.Core.Logic.{⊎_elim}
 use native.Mathlib.Omega.{arith}
-use native.Mathlib.Nat.{eq-or-lt_of_le}
 use lib.ListN.{get_or}
-use Rattle.graph_ranks.specs.Graph.{Edge, Path, one, more, Loops, Graph, Decides, FirstLoop}
+use Rattle.graph_ranks.specs.Graph.{Edge, Path, one, more, Loops, IsGraph, Decides}
 use Rattle.graph_ranks.specs.Ranks.{highest, RanksRight}
 use Rattle.graph_ranks.proofs.Ranking.{highest_above}
 
@@ -27,7 +25,7 @@ module _ {follow edges : List ℕ} {size : ℕ} {ranks : List ℕ} (r : RanksRig
   ranked_no_loop s l p = omega (arith, path_rises l p)
 
 -- what a path begins with feeds
-path_followed : {follow edges : List ℕ} {size : ℕ} → Graph follow edges size → {a b : ℕ} → Path edges a b → get_or follow a 0 ≡ 1
+path_followed : {follow edges : List ℕ} {size : ℕ} → IsGraph follow edges size → {a b : ℕ} → Path edges a b → get_or follow a 0 ≡ 1
 path_followed g {a} {b} (one e) = g.feeders a b e
 path_followed g (more p e) = path_followed g p
 
@@ -39,34 +37,6 @@ pub ranked_tells : {follow edges : List ℕ} {size : ℕ} {ranks : List ℕ} →
     → (s : ℕ) → (get_or ranks s 0 ≡ 0 → ⊥) → Decides (Loops edges s) false
 ranked_tells r s n = no_loop (ranked_no_loop r s (omega arith))
 
-pub unfollowed_tells : {follow edges : List ℕ} {size : ℕ} → Graph follow edges size
+pub unfollowed_tells : {follow edges : List ℕ} {size : ℕ} → IsGraph follow edges size
     → (s : ℕ) → (get_or follow s 0 ≡ 1 → ⊥) → Decides (Loops edges s) false
 unfollowed_tells g s n = no_loop (λ p. n (path_followed g p))
-
--- the nodes below n are on no loop
-abbrev pub NoneBelow : List ℕ → ℕ → Type 0
-NoneBelow edges n = (k : ℕ) → 1 ≤ k → k < n → Loops edges k → ⊥
-
-module _ (edges : List ℕ) (s : ℕ) where
-  pub none_below_more : {b : Bool} → NoneBelow edges s → Decides (Loops edges s) b → b ≡ false → NoneBelow edges (s + 1)
-  none_below_more none t e k l h =
-      ⊎_elim
-      (λ same. subst (λ (j : ℕ). Loops edges j → ⊥) (sym same) (t.fails e))
-      (λ (low : k < s). none k l low)
-      (eq-or-lt_of_le {n = k} {m = s} (omega arith))
-
-  pub first_found : {b : Bool} {size : ℕ} → 1 ≤ s → s ≤ size → NoneBelow edges s → Decides (Loops edges s) b → b ≡ true → FirstLoop edges size s
-  first_found l h none t e = record {
-    none = λ (z : s ≡ 0). absurd (omega arith);
-    node = h;
-    loops = λ _. t.holds e;
-    smallest = none;
-  }
-
-  pub none_found : {size : ℕ} → size < s → NoneBelow edges s → FirstLoop edges size 0
-  none_found h none = record {
-    none = λ _ k l u. none k l (omega arith);
-    node = omega arith;
-    loops = λ z. absurd (omega arith);
-    smallest = λ k l u. absurd (omega arith);
-  }

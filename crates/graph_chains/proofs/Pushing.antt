@@ -1,9 +1,10 @@
 -- What pushing feeders keeps: the stack's room, and that the search goes down.
 use Prim.Native.Nat.{ℕ, ◌+◌, ◌*◌, ◌≤◌, ◌<◌}
-use mathlib.Core.Path.{◌≡◌, refl, sym, subst, ◌∙◌}
+use mathlib.Core.Path.{◌≡◌, refl, ap₂, ◌∙◌}
 use mathlib.Core.Bool.{Bool, true, false}
-use mathlib.Core.List.{List}
+use mathlib.Core.List.{List, ◌∷◌}
 use native.Mathlib.Omega.{arith}
+use native.Mathlib.Numerals.{add-one}
 use lib.Dec.{eqb}
 use lib.ListN.{length, get_or, set, length-set}
 use lib.Seq.{get_or-set_same}
@@ -11,16 +12,16 @@ use borrow.Author.Tests.{eqb-true, eqb-false, eq-eqb, ne_eqb}
 use Rattle.std.specs.Prelude.{if◌then◌else◌}
 use Rattle.graph_ranks.specs.Graph.{places}
 use Rattle.graph_ranks.specs.Zeros.{zeros}
-use Rattle.graph_chains.specs.Search.{Search, state, Room, pushed, pushed_to, pushed_all}
+use Rattle.graph_chains.specs.Search.{State, state, Room, pushed, pushed_to}
 use Rattle.graph_ranks.proofs.Zeros.{zeros_filled}
 use Rattle.graph_ranks.proofs.Stores.{read_cases}
 
 -- x is stacked
-abbrev pub stacked : Search → ℕ → Search
-stacked at x = state (set at.marks x 1) (set at.stack at.depth x) (at.depth + 1)
+abbrev pub stacked : State → ℕ → State
+stacked at x = state (set at.marks x 1) (x ∷ at.stack)
 
 -- x is none, has a mark, or is stacked
-pub push_cases : (P : Search → Type 0) (at : Search) (x : ℕ) → (x ≡ 0 → P at) → (1 ≤ get_or at.marks x 0 → P at)
+pub push_cases : (P : State → Type 0) (at : State) (x : ℕ) → (x ≡ 0 → P at) → (1 ≤ get_or at.marks x 0 → P at)
     → (1 ≤ x → get_or at.marks x 0 ≡ 0 → P (stacked at x)) → P (pushed at x)
 unfolding pushed
 push_cases P at x none old new = go (eqb x 0) (eqb (get_or at.marks x 0) 0) refl refl
@@ -30,57 +31,53 @@ push_cases P at x none old new = go (eqb x 0) (eqb (get_or at.marks x 0) 0) refl
     go false true e f = let real = eqb-false x 0 e in new (omega arith) (eqb-true (get_or at.marks x 0) 0 f)
     go false false e f = let marked = eqb-false (get_or at.marks x 0) 0 f in old (omega arith)
 
-pub stack_room : (at : Search) (x : ℕ) → x < places → Room at → get_or at.marks x 0 ≡ 0 → Room (stacked at x)
+pub stack_room : (at : State) (x : ℕ) → x < places → Room at → get_or at.marks x 0 ≡ 0 → Room (stacked at x)
 stack_room at x h r e = record {
   marks_long = length-set at.marks x 1 ∙ r.marks_long;
-  stack_long = length-set at.stack at.depth x ∙ r.stack_long;
   left = omega (arith, r.left, zeros_filled at.marks x 1 (omega (arith, r.marks_long)) e (omega arith));
 }
 
-pub push_room : (at : Search) (x : ℕ) → x < places → Room at → Room (pushed at x)
+pub push_room : (at : State) (x : ℕ) → x < places → Room at → Room (pushed at x)
 push_room at x h r = push_cases Room at x (λ e. r) (λ e. r) (λ real e. stack_room at x h r e)
 
 -- a mark stays
 pub mark_stays : (marks : List ℕ) (x z : ℕ) → x < length marks → 1 ≤ get_or marks z 0 → 1 ≤ get_or (set marks x 1) z 0
 mark_stays marks x z h m = read_cases (λ _ v. 1 ≤ v) marks x 1 h (omega arith) z (λ _. m)
 
-pub push_stays : (at : Search) (x z : ℕ) → x < places → Room at → 1 ≤ get_or at.marks z 0 → 1 ≤ get_or (pushed at x).marks z 0
+pub push_stays : (at : State) (x z : ℕ) → x < places → Room at → 1 ≤ get_or at.marks z 0 → 1 ≤ get_or (pushed at x).marks z 0
 push_stays at x z h r m =
-    push_cases (λ (a : Search). 1 ≤ get_or a.marks z 0) at x (λ e. m) (λ e. m)
+    push_cases (λ (a : State). 1 ≤ get_or a.marks z 0) at x (λ e. m) (λ e. m)
     (λ real e. mark_stays at.marks x z (omega (arith, r.marks_long)) m)
 
 -- x has its mark
-pub push_marks : (at : Search) (x : ℕ) → x < places → Room at → 1 ≤ x → 1 ≤ get_or (pushed at x).marks x 0
+pub push_marks : (at : State) (x : ℕ) → x < places → Room at → 1 ≤ x → 1 ≤ get_or (pushed at x).marks x 0
 push_marks at x h r l =
-    push_cases (λ (a : Search). 1 ≤ get_or a.marks x 0) at x (λ (e : x ≡ 0). absurd (omega arith)) (λ m. m)
+    push_cases (λ (a : State). 1 ≤ get_or a.marks x 0) at x (λ (e : x ≡ 0). absurd (omega arith)) (λ m. m)
     (λ real e. omega (arith, get_or-set_same at.marks x 1 0 (omega (arith, r.marks_long))))
 
 -- what is left of the search: each node with no mark counts twice, each node on the stack once
-abbrev pub left_over : Search → ℕ
-left_over at = 2 * zeros at.marks + at.depth
+abbrev pub left_over : State → ℕ
+left_over at = 2 * zeros at.marks + length at.stack
 
-pub push_less : (at : Search) (x : ℕ) → x < places → Room at → left_over (pushed at x) ≤ left_over at
+pub push_less : (at : State) (x : ℕ) → x < places → Room at → left_over (pushed at x) ≤ left_over at
 push_less at x h r =
-    push_cases (λ (a : Search). left_over a ≤ left_over at) at x (λ e. omega arith) (λ e. omega arith)
+    push_cases (λ (a : State). left_over a ≤ left_over at) at x (λ e. omega arith) (λ e. omega arith)
     (λ real e. omega (arith, zeros_filled at.marks x 1 (omega (arith, r.marks_long)) e (omega arith)))
 
--- the three ways that `push` ends
-pub push_answers : (at b : Search) (x : ℕ) → Room at → x < places → b ≡ pushed at x → (b ≡ pushed at x) × Room b
-push_answers at b x r h e = (e, subst Room (sym e) (push_room at x h r))
-
-pub push_none : (at : Search) (x : ℕ) → x ≡ 0 → at ≡ pushed at x
+pub push_none : (at : State) (x : ℕ) → x ≡ 0 → at ≡ pushed at x
 unfolding pushed
 push_none at x e = rw (eq-eqb x 0 e)
 
-pub push_old : (at : Search) (x : ℕ) → (x ≡ 0 → ⊥) → (get_or at.marks x 0 ≡ 0 → ⊥) → at ≡ pushed at x
+pub push_old : (at : State) (x : ℕ) → (x ≡ 0 → ⊥) → (get_or at.marks x 0 ≡ 0 → ⊥) → at ≡ pushed at x
 unfolding pushed
 push_old at x e f = rw (ne_eqb x 0 e, ne_eqb (get_or at.marks x 0) 0 f)
 
-pub push_new : (at : Search) (x : ℕ) → (x ≡ 0 → ⊥) → get_or at.marks x 0 ≡ 0 → stacked at x ≡ pushed at x
+pub push_new : (at : State) (x : ℕ) → (x ≡ 0 → ⊥) → get_or at.marks x 0 ≡ 0 → stacked at x ≡ pushed at x
 unfolding pushed
 push_new at x e f = rw (ne_eqb x 0 e, eq-eqb (get_or at.marks x 0) 0 f)
 
-pub push_four : (edges : List ℕ) (a b c d e : Search) (y : ℕ) → b ≡ pushed a (get_or edges (4 * y) 0) → c ≡ pushed b (get_or edges (4 * y + 1) 0)
-    → d ≡ pushed c (get_or edges (4 * y + 2) 0) → e ≡ pushed d (get_or edges (4 * y + 3) 0) → e ≡ pushed_all edges a y
+-- one more feeder
+pub push_more : (edges : List ℕ) (at now next : State) (y j x : ℕ) → now ≡ pushed_to edges at y j → x ≡ get_or edges (4 * y + j) 0
+    → next ≡ pushed now x → next ≡ pushed_to edges at y (j + 1)
 unfolding pushed_to
-push_four edges a b c d e y p q r s = let first : 4 * y + 0 ≡ 4 * y = omega arith in rw first (cc)
+push_more edges at now next y j x e f p = rw add-one (p ∙ ap₂ pushed e f)

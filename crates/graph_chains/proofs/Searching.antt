@@ -1,9 +1,9 @@
 -- A search back from s: what is marked leads to s, and what is marked, or is s, has all its feeders marked or stands on the stack. So
 -- when the stack is empty, s is marked exactly when it is on a loop.
 use Prim.Native.Nat.{ℕ, zero, suc, ◌+◌, ◌*◌, ◌≤◌, ◌<◌}
-use mathlib.Core.Path.{◌≡◌, refl, sym, subst, ◌∙◌}
+use mathlib.Core.Path.{◌≡◌, refl, sym, subst, ap}
 use mathlib.Core.Bool.{not}
-use mathlib.Core.List.{List}
+use mathlib.Core.List.{List, [], ◌∷◌}
 use mathlib.Core.Logic.{◌⊎◌, inl, inr, ⊎_elim}
 use native.Mathlib.Omega.{arith}
 use native.Mathlib.Nat.{eq-or-lt_of_le}
@@ -12,8 +12,8 @@ use lib.Dec.{eqb}
 use borrow.Author.Tests.{eqb-true, eqb-false, not-true, not-false}
 use lib.Seq.{get_or-set_same, get_or-set_other}
 use Rattle.graph_ranks.specs.Graph.{places, Entries, Edge, Path, one, more, Loops, Decides}
-use Rattle.graph_chains.specs.Search.{Search, state, Room, pushed, pushed_to, pushed_all}
-use Rattle.graph_ranks.proofs.Zeros.{zeros_at, zeros_length}
+use Rattle.graph_chains.specs.Search.{State, state, blank, Room, pushed, pushed_to, pushed_all}
+use Rattle.graph_ranks.proofs.Zeros.{zeros_length}
 use Rattle.graph_ranks.proofs.Stores.{equal_or_not, read_cases, all_zero}
 use Rattle.graph_chains.proofs.Pushing.{stacked, push_cases, stack_room, push_room, mark_stays, push_stays, push_marks, left_over, push_less}
 
@@ -31,47 +31,45 @@ path_real (more p e) = path_real p
 abbrev pub Closed : List ℕ → List ℕ → ℕ → Type 0
 Closed edges marks y = (x : ℕ) → Edge edges x y → 1 ≤ get_or marks x 0
 
--- y stands on the stack
-pub record Stacked (at : Search) (y : ℕ) : Type 0 where
-  pub index : ℕ
-  pub below : index < at.depth
-  pub is : get_or at.stack index 0 ≡ y
+-- x stands on the stack
+abbrev pub On : ℕ → List ℕ → Type 0
+On x [] = ⊥
+On x (v ∷ stack) = (x ≡ v) ⊎ On x stack
 
 -- a search back from s in which y alone may have feeders that are left out (none, where y is 0)
-pub record Searching (edges : List ℕ) (size s y : ℕ) (at : Search) : Type 0 where
+pub record Searching (edges : List ℕ) (size s y : ℕ) (at : State) : Type 0 where
   pub room : Room at
   pub sound : (x : ℕ) → 1 ≤ get_or at.marks x 0 → Path edges x s
-  pub marked : (k : ℕ) → k < at.depth → 1 ≤ get_or at.marks (get_or at.stack k 0) 0
-  pub within : (k : ℕ) → get_or at.stack k 0 ≤ size
+  pub stacked : (x : ℕ) → On x at.stack → (1 ≤ get_or at.marks x 0) × (x ≤ size)
   pub closed : (z : ℕ) → 1 ≤ z → (z ≡ y → ⊥) → (z ≡ s) ⊎ (1 ≤ get_or at.marks z 0)
-      → Closed edges at.marks z ⊎ Stacked at z
-
-abbrev blank : Search
-blank = state (replicate places 0) (replicate places 0) 0
+      → Closed edges at.marks z ⊎ On z at.stack
 
 pub blank_room : Room blank
 blank_room =
     let long : length (replicate {A = ℕ} places 0) ≡ places = length-replicate {A = ℕ} places 0 in
-    record { marks_long = long; stack_long = long; left = omega (arith, zeros_length (replicate places 0), long) }
+    record { marks_long = long; left = omega (arith, zeros_length (replicate places 0), long) }
 
 -- at the start nothing is marked, and s has all its feeders left out
 search_start : (edges : List ℕ) (size s : ℕ) → Searching edges size s s blank
 search_start edges size s = record {
   room = blank_room;
   sound = λ x m. absurd (none x m);
-  marked = λ k h. absurd (omega arith);
-  within = λ k. omega (arith, all_zero places k);
+  stacked = λ x on. absurd on;
   closed = λ z real other due. absurd (⊎_elim other (none z) due);
 }
   where
     none : (x : ℕ) → 1 ≤ get_or blank.marks x 0 → ⊥
     none x m = omega (arith, all_zero places x)
 
-pub pop_room : (at : Search) (d : ℕ) → at.depth ≡ d + 1 → Room at → Room (state at.marks at.stack d)
-pop_room at d e r = record { marks_long = r.marks_long; stack_long = r.stack_long; left = omega (arith, r.left) }
+pub pop_room : (marks stack : List ℕ) (v : ℕ) → Room (state marks (v ∷ stack)) → Room (state marks stack)
+pop_room marks stack v r = record { marks_long = r.marks_long; left = omega (arith, r.left) }
+
+-- the top of the stack is a node
+pub top_low : {edges : List ℕ} {size s y v : ℕ} {at : State} {rest : List ℕ} → Searching edges size s y at → at.stack ≡ v ∷ rest → v ≤ size
+top_low {v = v} i e = (i.stacked v (subst (On v) (sym e) (inl refl))).1
 
 module _ (edges : List ℕ) (size s y : ℕ) where
-  search_push : (at : Search) (x : ℕ) → x < places → x ≤ size → (1 ≤ x → Path edges x s) → Searching edges size s y at
+  search_push : (at : State) (x : ℕ) → x < places → x ≤ size → (1 ≤ x → Path edges x s) → Searching edges size s y at
       → Searching edges size s y (pushed at x)
   search_push at x h l path i = push_cases (Searching edges size s y) at x (λ _. i) (λ _. i) new
     where
@@ -79,22 +77,17 @@ module _ (edges : List ℕ) (size s y : ℕ) where
       new real e = record {
         room = stack_room at x h i.room e;
         sound = λ z. read_cases (λ w v. 1 ≤ v → Path edges w s) at.marks x 1 low (λ _. path real) z (λ _. i.sound z);
-        marked = λ k b.
-            read_cases (λ j v. j < at.depth + 1 → 1 ≤ get_or (set at.marks x 1) v 0) at.stack at.depth x high
-            (λ _. omega (arith, get_or-set_same at.marks x 1 0 low)) k
-            (λ other c. mark_stays at.marks x (get_or at.stack k 0) low (i.marked k (omega arith))) b;
-        within = λ k. read_cases (λ _ v. v ≤ size) at.stack at.depth x high l k (λ _. i.within k);
+        stacked = λ z.
+            ⊎_elim
+            (λ same. (subst (λ (w : ℕ). 1 ≤ get_or (set at.marks x 1) w 0) (sym same) here, omega (arith, same)))
+            (λ on. let was = i.stacked z on in (mark_stays at.marks x z low was.0, was.1));
         closed = λ z r other due.
             ⊎_elim
-            (λ same. inr (record {
-              index = at.depth;
-              below = omega arith;
-              is = get_or-set_same at.stack at.depth x 0 high ∙ sym same;
-            }))
+            (λ same. inr (inl same))
             (λ old.
             ⊎_elim
             (λ c. inl (λ w f. mark_stays at.marks x w low (c w f)))
-            (λ (k : Stacked at z). inr (still z k))
+            (λ on. inr (inr on))
             (i.closed z r other (was z old due)))
             (equal_or_not z x);
       }
@@ -106,37 +99,22 @@ module _ (edges : List ℕ) (size s y : ℕ) where
           was z old =
               ⊎_elim inl (λ m. inr (subst (λ (v : ℕ). 1 ≤ v) (get_or-set_other at.marks x z 1 0 old) m))
 
-          still : (z : ℕ) → Stacked at z → Stacked (stacked at x) z
-          still z k = record {
-            index = k.index;
-            below = omega (arith, k.below);
-            is = get_or-set_other at.stack at.depth k.index x 0 (λ (q : k.index ≡ at.depth). omega (arith, k.below)) ∙ k.is;
-          }
-
-          high : at.depth < length at.stack
-          high = omega (arith, i.room.stack_long, i.room.left, zeros_at at.marks x low e)
+          here : 1 ≤ get_or (set at.marks x 1) x 0
+          here = omega (arith, get_or-set_same at.marks x 1 0 low)
 
   -- y is taken off the stack
-  search_pop : (at : Search) (d : ℕ) → at.depth ≡ d + 1 → get_or at.stack d 0 ≡ y → Searching edges size s 0 at
-      → Searching edges size s y (state at.marks at.stack d)
-  search_pop at d e q i = record {
-    room = pop_room at d e i.room;
+  search_pop : (marks stack : List ℕ) → Searching edges size s 0 (state marks (y ∷ stack)) → Searching edges size s y (state marks stack)
+  search_pop marks stack i = record {
+    room = pop_room marks stack y i.room;
     sound = i.sound;
-    marked = λ k b. i.marked k (omega arith);
-    within = i.within;
+    stacked = λ x on. i.stacked x (inr on);
     closed = λ z real other due.
-        ⊎_elim inl
-        (λ k. inr (under z other k))
+        ⊎_elim inl (⊎_elim (λ same. absurd (other same)) inr)
         (i.closed z real (λ (n : z ≡ 0). omega arith) due);
   }
-    where
-      under : (z : ℕ) → (z ≡ y → ⊥) → Stacked at z → Stacked (state at.marks at.stack d) z
-      under z other k =
-          let last : (k.index ≡ d → ⊥) = λ l. other (sym k.is ∙ subst (λ (j : ℕ). get_or at.stack j 0 ≡ y) (sym l) q) in
-          record { index = k.index; below = omega (arith, k.below); is = k.is }
 
 -- the first j feeders of y are pushed
-module _ (edges : List ℕ) (size : ℕ) (all : Entries edges size) (at : Search) (y : ℕ) where
+module _ (edges : List ℕ) (size : ℕ) (all : Entries edges size) (at : State) (y : ℕ) where
   low_feeder : (i : ℕ) → get_or edges i 0 < places
   low_feeder i = omega (arith, all.within i, all.small)
 
@@ -168,7 +146,7 @@ module _ (edges : List ℕ) (size : ℕ) (all : Entries edges size) (at : Search
       push_stays now x (get_or edges (4 * y + k) 0) (low_feeder (4 * y + j)) (to_room j r) (to_marks j r k before l))
       (eq-or-lt_of_le {n = k} {m = j} (omega arith))
     where
-      now : Search
+      now : State
       now = pushed_to edges at y j
 
       x : ℕ
@@ -197,8 +175,7 @@ module _ (edges : List ℕ) (size : ℕ) (all : Entries edges size) (at : Search
       record {
         room = after.room;
         sound = after.sound;
-        marked = after.marked;
-        within = after.within;
+        stacked = after.stacked;
         closed = λ z real _ due.
             ⊎_elim (λ same. inl (λ x e. mark z same x e)) (λ other. after.closed z real other due) (equal_or_not z y);
       }
@@ -211,31 +188,30 @@ module _ (edges : List ℕ) (size : ℕ) (all : Entries edges size) (at : Search
 
 -- the turns of the search
 module _ (edges : List ℕ) (size : ℕ) (all : Entries edges size) (s : ℕ) where
-  pub first_turn : (b : Search) → b ≡ pushed_all edges blank s → Searching edges size s 0 b
+  pub first_turn : (b : State) → b ≡ pushed_all edges blank s → Searching edges size s 0 b
   first_turn b e =
       subst (Searching edges size s 0) (sym e) (search_all edges size all blank s s (inl refl) (search_start edges size s))
 
-  pub next_turn : (at b : Search) (d : ℕ) → at.depth ≡ d + 1 → Searching edges size s 0 at
-      → b ≡ pushed_all edges (state at.marks at.stack d) (get_or at.stack d 0) → Searching edges size s 0 b
-  next_turn at b d e i p =
-      let y = get_or at.stack d 0 in
+  pub next_turn : (marks stack rest : List ℕ) (v : ℕ) (b : State) → stack ≡ v ∷ rest → Searching edges size s 0 (state marks stack)
+      → b ≡ pushed_all edges (state marks rest) v → Searching edges size s 0 b
+  next_turn marks stack rest v b e i p =
+      let here : Searching edges size s 0 (state marks (v ∷ rest)) = subst (λ (l : List ℕ). Searching edges size s 0 (state marks l)) e i in
       subst (Searching edges size s 0) (sym p)
-      (search_all edges size all (state at.marks at.stack d) y s
-      (inr (i.sound y (i.marked d (omega arith))))
-      (search_pop edges size s y at d e refl i))
+      (search_all edges size all (state marks rest) v s
+      (inr (i.sound v (here.stacked v (inl refl)).0))
+      (search_pop edges size s v marks rest here))
 
-  pub turn_less : (at b : Search) (d : ℕ) → at.depth ≡ d + 1 → Room at
-      → b ≡ pushed_all edges (state at.marks at.stack d) (get_or at.stack d 0) → left_over b < left_over at
-  turn_less at b d e r p =
-      let popped = state at.marks at.stack d in
-      subst (λ (a : Search). left_over a < left_over at) (sym p)
-      (omega (arith, to_less edges size all popped (get_or at.stack d 0) 4 (pop_room at d e r)))
+  pub turn_less : (marks stack rest : List ℕ) (v : ℕ) (b : State) → stack ≡ v ∷ rest → Room (state marks stack)
+      → b ≡ pushed_all edges (state marks rest) v → left_over b < left_over (state marks stack)
+  turn_less marks stack rest v b e r p =
+      let room = pop_room marks rest v (subst (λ (l : List ℕ). Room (state marks l)) e r) in
+      omega (arith, ap left_over p, to_less edges size all (state marks rest) v 4 room, ap length e)
 
 -- the search is over
-module _ (edges : List ℕ) (size s : ℕ) (at : Search) (i : Searching edges size s 0 at) (empty : at.depth ≡ 0) where
+module _ (edges : List ℕ) (size s : ℕ) (at : State) (i : Searching edges size s 0 at) (empty : at.stack ≡ []) where
   closed_at_last : (z : ℕ) → 1 ≤ z → (z ≡ s) ⊎ (1 ≤ get_or at.marks z 0) → Closed edges at.marks z
   closed_at_last z real due =
-      ⊎_elim (λ c. c) (λ (k : Stacked at z). absurd (omega (arith, k.below)))
+      ⊎_elim (λ c. c) (λ on. absurd (subst (On z) empty on))
       (i.closed z real (λ (n : z ≡ 0). omega arith) due)
 
   reached : {a b : ℕ} → 1 ≤ b → (b ≡ s) ⊎ (1 ≤ get_or at.marks b 0) → Path edges a b → 1 ≤ get_or at.marks a 0

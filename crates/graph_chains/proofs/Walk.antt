@@ -6,15 +6,15 @@ use mathlib.Core.List.{List}
 use mathlib.Core.Logic.{⊎_elim}
 use native.Mathlib.Omega.{arith}
 use lib.ListN.{length, get_or, set, replicate, length-set, length-replicate}
-use Rattle.graph_ranks.specs.Graph.{places, Edge, Path, one, Followed, Graph, FirstLoop}
+use Rattle.graph_ranks.specs.Graph.{places, Edge, Path, one, Followed, IsGraph, NoLoops}
 use Rattle.graph_ranks.specs.Zeros.{zeros}
 use Rattle.graph_ranks.specs.Ranks.{Ranked}
 use Rattle.graph_ranks.proofs.Zeros.{zeros_at, zeros_filled}
 use Rattle.graph_ranks.proofs.Stores.{equal_or_not, read_cases, all_zero}
 use Rattle.graph_chains.proofs.Searching.{edge_path}
 
-module _ {follow edges : List ℕ} {size : ℕ} {ranks : List ℕ} (g : Graph follow edges size) (r : Ranked follow edges size ranks)
-    (no_loops : FirstLoop edges size 0) where
+module _ {follow edges : List ℕ} {size : ℕ} {ranks : List ℕ} (g : IsGraph follow edges size) (r : Ranked follow edges size ranks)
+    (no_loops : NoLoops edges size) where
   feeder_followed : {x y : ℕ} → Edge edges x y → Followed follow size x
   feeder_followed {x} {y} e = record {
     low = e.real;
@@ -28,7 +28,7 @@ module _ {follow edges : List ℕ} {size : ℕ} {ranks : List ℕ} (g : Graph fo
   walk zero c marks long few paths f u =
       ⊎_elim
       (λ new. omega (arith, zeros_at marks c (omega (arith, f.high, g.each.small)) new))
-      (λ (old : get_or marks c 0 ≡ 0 → ⊥). no_loops.none (omega arith) c f.low f.high (paths c (omega arith)))
+      (λ (old : get_or marks c 0 ≡ 0 → ⊥). no_loops c f.low f.high (paths c (omega arith)))
       (equal_or_not (get_or marks c 0) 0)
   walk (suc n) c marks long few paths f u =
       ⊎_elim
@@ -42,7 +42,7 @@ module _ {follow edges : List ℕ} {size : ℕ} {ranks : List ℕ} (g : Graph fo
       (λ _ m. edge_path back.edge (paths z m)))
       (feeder_followed back.edge)
       back.unranked)
-      (λ (old : get_or marks c 0 ≡ 0 → ⊥). no_loops.none (omega arith) c f.low f.high (paths c (omega arith)))
+      (λ (old : get_or marks c 0 ≡ 0 → ⊥). no_loops c f.low f.high (paths c (omega arith)))
       (equal_or_not (get_or marks c 0) 0)
 
   pub all_have_ranks : (y : ℕ) → Followed follow size y → 1 ≤ get_or ranks y 0

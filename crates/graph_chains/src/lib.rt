@@ -3,98 +3,88 @@
 #![tactic(auto)]
 
 ghost use Rattle.std.specs.Prelude.{◌≡◌, ◌<◌, ◌≤◌, length};
-ghost use Rattle.graph_ranks.specs.Graph.{places, Entries, Graph, Loops, Decides, FirstLoop};
+ghost use Rattle.graph_ranks.specs.Graph.{places, Loops, Decides, FirstLoop};
 ghost use Rattle.graph_ranks.specs.Ranks.{Ranked};
-ghost use Rattle.graph_chains.specs.Search.{Room, state, pushed, pushed_all};
+ghost use Rattle.graph_chains.specs.Search.{Room, state, blank, pushed, pushed_all};
 
-use graph_ranks::PLACES;
+use graph_ranks::{Graph, PLACES, Stack};
 
-// The feeder x is marked and stacked, if it is a node and has no mark; the stack's depth after it.
-fn push(marks: &mut [u8], stack: &mut [u16], depth: usize, x: u16) -> usize
-    requires room { Room (state marks.old stack.old depth) }
-    requires x_lt_places { x < places }
-    ensures result_after { state marks.new stack.new result ≡ pushed (state marks.old stack.old depth) x }
-    ensures room_2 { Room (state marks.new stack.new result) }
-{
-    if x == 0 {
-        return depth;
-    }
-    let node = x as usize;
-    if marks[node] != 0 {
-        return depth;
-    }
-    marks[node] = 1;
-    stack[depth] = x;
-    depth + 1
+// A search back from a node: a mark for each node, and the marked nodes whose feeders are still to be marked.
+#[derive(Drop)]
+struct Search {
+    marks: [u8; PLACES],
+    stack: Stack<PLACES>,
+    ghost room: { Room (state marks stack) },
 }
 
-// Each feeder of y is marked and stacked; the stack's depth after them.
-fn push_feeders(
-    edges: &[u16],
-    size: usize,
-    marks: &mut [u8],
-    stack: &mut [u16],
-    depth: usize,
-    y: usize,
-) -> usize
-    requires entries { Entries edges.now size }
-    requires room { Room (state marks.old stack.old depth) }
-    requires y_le_size { y ≤ size }
-    ensures result_after { state marks.new stack.new result ≡ pushed_all edges.now (state marks.old stack.old depth) y }
-    ensures room_2 { Room (state marks.new stack.new result) }
-{
-    let one = push(marks, stack, depth, edges[4 * y]);
-    let two = push(marks, stack, one, edges[4 * y + 1]);
-    let three = push(marks, stack, two, edges[4 * y + 2]);
-    push(marks, stack, three, edges[4 * y + 3])
+impl Search {
+    fn new() -> Self
+        ensures { state result.marks result.stack ≡ blank }
+    {
+        Search {
+            marks: [0; PLACES],
+            stack: Stack::new(),
+        }
+    }
+
+    // The feeder x is marked and stacked, if it is a node and has no mark.
+    fn push(&mut self, x: u16)
+        requires { x < places }
+        ensures { state self.new.marks self.new.stack ≡ pushed (state self.old.marks self.old.stack) x }
+    {
+        let node = usize::from(x);
+        if x == 0 || self.marks[node] != 0 {
+            return;
+        }
+        self.marks[node] = 1;
+        self.stack.push(x);
+    }
+
+    // Each feeder of the node is marked and stacked.
+    fn push_feeders(&mut self, graph: &Graph, node: usize)
+        requires { node ≤ graph.now.size }
+        ensures { state self.new.marks self.new.stack ≡ pushed_all graph.now.edges.now (state self.old.marks self.old.stack) node }
+    {
+        for j in 0..4 {
+            self.push(graph.feeder(node, j));
+        }
+    }
 }
 
 // Is s on a loop? A search back from s: s is on a loop if the search comes to it.
-fn reaches_itself(edges: &[u16], size: usize, s: usize) -> bool
-    requires entries { Entries edges.now size }
-    requires s_le_size { s ≤ size }
-    ensures { Decides (Loops edges.now s) result }
+fn reaches_itself(graph: &Graph, s: usize) -> bool
+    requires { s ≤ graph.now.size }
+    ensures { Decides (Loops graph.now.edges.now s) result }
 {
-    let mut marks = [0u8; PLACES];
-    let mut stack = [0u16; PLACES];
-    let mut depth = push_feeders(edges, size, &mut marks, &mut stack, 0, s);
-    while 0 < depth {
-        let y = stack[depth - 1] as usize;
-        depth = push_feeders(edges, size, &mut marks, &mut stack, depth - 1, y);
+    let mut search = Search::new();
+    search.push_feeders(graph, s);
+    while let Some(node) = search.stack.pop() {
+        search.push_feeders(graph, usize::from(node));
     }
-    marks[s] != 0
+    search.marks[s] != 0
 }
 
 // Is s on a loop? What is not followed, or has a rank, is not.
-fn on_loop(follow: &[u8], edges: &[u16], size: usize, ranks: &[u16], s: usize) -> bool
-    requires graph { Graph follow.now edges.now size }
-    requires ranks_len { (length ranks.now ≡ places) × Ranked follow.now edges.now size ranks.now }
-    requires s_le_size { s ≤ size }
-    ensures { Decides (Loops edges.now s) result }
+fn on_loop(graph: &Graph, ranks: &[u16], s: usize) -> bool
+    requires ranks_len { length ranks.now ≡ places }
+    requires ranked { Ranked graph.now.follow.now graph.now.edges.now graph.now.size ranks.now }
+    requires s_le_size { s ≤ graph.now.size }
+    ensures { Decides (Loops graph.now.edges.now s) result }
 {
-    if ranks[s] != 0 {
-        return false;
-    }
-    if follow[s] != 1 {
-        return false;
-    }
-    reaches_itself(edges, size, s)
+    ranks[s] == 0 && graph.follow[s] == 1 && reaches_itself(graph, s)
 }
 
-// The smallest node that is on a loop, or 0 where none is. Ranks decide most graphs at once; only what has none is
-// searched from.
-pub fn first_loop(follow: &[u8], edges: &[u16], size: usize) -> u16
-    requires { Graph follow.now edges.now size }
-    ensures { FirstLoop edges.now size result }
+// The smallest node that is on a loop, if one is. Ranks decide most graphs at once; only what has none is searched
+// from.
+pub fn first_loop(graph: &Graph) -> Option<u16>
+    ensures { FirstLoop graph.now.edges.now graph.now.size result }
 {
     let mut ranks = [0u16; PLACES];
-    graph_ranks::rank_all(follow, edges, size, &mut ranks);
-    let mut s: usize = 1;
-    while s <= size {
-        if on_loop(follow, edges, size, &ranks, s) {
-            return s as u16;
+    graph.rank_all(&mut ranks);
+    for s in 1..=graph.size {
+        if on_loop(graph, &ranks, s) {
+            return Some(s as u16);
         }
-        s += 1;
     }
-    0
+    None
 }

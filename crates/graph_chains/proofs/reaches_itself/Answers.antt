@@ -1,22 +1,23 @@
 -- `reaches_itself` tells whether s is on a loop. The invariant is `Searching`; each turn has less left over.
-use native.Mathlib.Omega.{arith}
-use Rattle.graph_chains.specs.Search.{state}
-use Rattle.graph_chains.proofs.Searching.{blank_room, first_turn, next_turn, turn_less, search_tells}
+use mathlib.Core.Path.{◌∙◌, ap}
+use Rattle.graph_chains.specs.Search.{State, pushed_all}
+use Rattle.graph_chains.proofs.Searching.{first_turn, next_turn, turn_less, top_low, search_tells}
 use Rattle.graph_chains.proofs.reaches_itself.Goals as goal
 
-pub push_feeders-depth-requires-clause-room : goal.push_feeders-depth-requires-clause-room
-push_feeders-depth-requires-clause-room c = blank_room
+pub loop-node-init : goal.loop-node-init
+loop-node-init c =
+    first_turn _ _ c.args.graph.now.is_graph.each _ _ (c.push_feeders.ensures ∙ ap (λ (at : State). pushed_all c.args.graph.now.edges.now at c.args.s) c.new-search.ensures)
 
-pub loop-depth-init : goal.loop-depth-init
-loop-depth-init c = first_turn _ _ c.requires.entries _ _ c.push_feeders-depth.ensures.result_after
+pub push_feeders-requires-in-Some : goal.push_feeders-requires-in-Some
+push_feeders-requires-in-Some c = rw c.from.ensures (top_low c.loop-node.invariant c.in-Some.ensures)
 
-pub loop-depth-smaller : goal.loop-depth-smaller
-loop-depth-smaller c =
-    turn_less _ _ c.requires.entries c.args.s (state c.loop-depth.marks c.loop-depth.stack c.loop-depth.depth) _ _ (omega arith) c.loop-depth.invariant.room c.push_feeders-depth-in-loop-depth.ensures.result_after
+pub loop-node-smaller : goal.loop-node-smaller
+loop-node-smaller c =
+    turn_less _ _ c.args.graph.now.is_graph.each c.args.s _ _ _ _ _ c.in-Some.ensures c.loop-node.invariant.room (rw c.from.ensures at c.push_feeders-in-Some.ensures)
 
-pub loop-depth-preserved : goal.loop-depth-preserved
-loop-depth-preserved c =
-    next_turn _ _ c.requires.entries _ (state c.loop-depth.marks c.loop-depth.stack c.loop-depth.depth) _ _ (omega arith) c.loop-depth.invariant c.push_feeders-depth-in-loop-depth.ensures.result_after
+pub loop-node-preserved : goal.loop-node-preserved
+loop-node-preserved c =
+    next_turn _ _ c.args.graph.now.is_graph.each _ _ _ _ _ _ c.in-Some.ensures c.loop-node.invariant (rw c.from.ensures at c.push_feeders-in-Some.ensures)
 
 pub returns : goal.returns
-returns c = search_tells _ _ _ _ c.loop-depth.invariant (omega arith)
+returns c = search_tells _ _ _ _ c.loop-node.invariant c.in_default.ensures.0

@@ -4,8 +4,8 @@ use Rattle.graph_chains.proofs.Pushing.{left_over}
 use Rattle.graph_chains.proofs.Searching.{Searching}
 use Rattle.graph_chains.proofs.reaches_itself.Given as goal
 
-abbrev pub invariant-loop-depth : goal.invariant-loop-depth
-invariant-loop-depth l = Searching l.edges l.size l.s 0 (state l.marks l.stack l.depth)
+abbrev pub invariant-loop-node : goal.invariant-loop-node
+invariant-loop-node l = Searching l.graph.edges.now l.graph.size l.s 0 (state l.search.marks l.search.stack)
 
-abbrev pub decreases-loop-depth : goal.decreases-loop-depth
-decreases-loop-depth l = left_over (state l.marks l.stack l.depth)
+abbrev pub decreases-loop-node : goal.decreases-loop-node
+decreases-loop-node l = left_over (state l.search.marks l.search.stack)
