@@ -1,11 +1,12 @@
 -- A node that has a rank is on no loop, since ranks rise along edges; and one that is not followed is on none, since it feeds nothing.
-use Prim.Native.Nat.{ℕ, ◌≤◌, ◌<◌}
+use Prim.Native.Nat.{ℕ, ◌+◌, ◌≤◌, ◌<◌}
 use mathlib.Core.Path.{◌≡◌, sym, subst}
 use mathlib.Core.Bool.{false, true≢false}
 use mathlib.Core.List.{List}
 use native.Mathlib.Omega.{arith}
+use Rattle.std.specs.Prelude.{Option, Some, None, MatchOption}
 use lib.ListN.{get_or}
-use Rattle.graph_ranks.specs.Graph.{Edge, Path, one, more, Loops, IsGraph, Decides}
+use Rattle.graph_ranks.specs.Graph.{Edge, Path, one, more, Loops, IsGraph, Decides, FirstLoop}
 use Rattle.graph_ranks.specs.Ranks.{highest, RanksRight}
 use Rattle.graph_ranks.proofs.Ranking.{highest_above}
 
@@ -40,3 +41,11 @@ ranked_tells r s n = no_loop (ranked_no_loop r s (omega arith))
 pub unfollowed_tells : {follow edges : List ℕ} {size : ℕ} → IsGraph follow edges size
     → (s : ℕ) → (get_or follow s 0 ≡ 1 → ⊥) → Decides (Loops edges s) false
 unfollowed_tells g s n = no_loop (λ p. n (path_followed g p))
+
+-- the first of 1 to size that is on a loop
+pub first_found : (edges : List ℕ) (size : ℕ) (r : Option ℕ)
+    → MatchOption r ((k : ℕ) → 1 ≤ k → k < size + 1 → Loops edges k → ⊥)
+    (λ i. (1 ≤ i) × (i < size + 1) × Loops edges i × ((k : ℕ) → 1 ≤ k → k < i → Loops edges k → ⊥))
+    → FirstLoop edges size r
+first_found edges size None none = λ s low high. none s low (omega arith)
+first_found edges size (Some r) is = record { low = is.0; high = omega (arith, is.1); loops = is.2; smallest = is.3 }

@@ -81,10 +81,5 @@ pub fn first_loop(graph: &Graph) -> Option<u16>
 {
     let mut ranks = [0u16; PLACES];
     graph.rank_all(&mut ranks);
-    for s in 1..=graph.size {
-        if on_loop(graph, &ranks, s) {
-            return Some(s as u16);
-        }
-    }
-    None
+    (1..graph.size as u16 + 1).find(|&s| on_loop(graph, &ranks, usize::from(s)))
 }
