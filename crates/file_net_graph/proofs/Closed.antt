@@ -11,7 +11,7 @@ use lib.Seq.{get_or-set_same, get_or-set_other}
 use borrow.Author.Tests.{eq-eqb, eqb-true, eqb-false}
 use Rattle.logic.specs.Test.{one}
 use Rattle.std.specs.Prelude.{if◌then◌else◌}
-use Rattle.graph_ranks.specs.Graph.{Edge, Path, Followed, Graph}
+use Rattle.graph_ranks.specs.Graph.{Edge, Path, Followed, IsGraph}
 use Rattle.graph_ranks.proofs.Stores.{all_zero}
 use Rattle.model.specs.Network.{Signal, rank_order, Feeds, Chain}
 use Rattle.model.specs.Netlist.{net_field, network}
@@ -219,7 +219,7 @@ module _ (net : List ℕ) (size : ℕ) (lines : Lines net size) where
   chain_path (Chain.one f) = Path.one (feeds_edge _ _ f)
   chain_path (Chain.more p f) = Path.more (chain_path p) (feeds_edge _ _ f)
 
-  pub graph : Graph follow edges size
+  pub graph : IsGraph follow edges size
   graph =
       record {
         each = record { small = omega (arith, lines.small); long = edges_length; within = within };

@@ -1,9 +1,8 @@
 -- The stores by which the graph of the rank-order gates is loaded, and what stands in it.
-use Prim.Native.Nat.{ℕ, ◌+◌, ◌*◌, ◌/◌, ◌%◌, ◌≤◌}
-use mathlib.Core.Path.{◌≡◌, sym, ◌∙◌, ap, ap₂}
+use Prim.Native.Nat.{ℕ, suc, ◌+◌, ◌-◌, ◌*◌, ◌/◌, ◌%◌, ◌≤◌}
+use mathlib.Core.Path.{◌≡◌, ◌∙◌, ap, ap₂}
 use mathlib.Core.List.{List}
 use native.Mathlib.Omega.{arith}
-use native.Mathlib.Numerals.{add-one}
 use lib.Dec.{eqb}
 use lib.ListN.{get_or, set, replicate}
 use borrow.Author.Tests.{eq-eqb, ne_eqb}
@@ -12,22 +11,24 @@ use Rattle.model.specs.Netlist.{net_field}
 use Rattle.file_net_graph.specs.Graph.{follow_to, feeder_of, edges_to, follow_of, edges_of}
 
 module _ (net l : List ℕ) where
-  pub follow_more : (follow : List ℕ) (k f v : ℕ) → follow ≡ follow_to net l k → f ≡ net_field net (k + 1) 0 → v ≡ one (eqb f 3)
-      → set follow (k + 1) v ≡ follow_to net l (k + 1)
+  -- one more mark
+  pub follow_more : (follow : List ℕ) (s v : ℕ) → 1 ≤ s → follow ≡ follow_to net l (s - 1) → v ≡ one (eqb (net_field net s 0) 3)
+      → set follow s v ≡ follow_to net l (s + 1 - 1)
   unfolding follow_to
-  follow_more follow k f v e q r = let n = add-one k in rw (e, r, q) (ap (follow_to net l) (sym n))
-
-  pub follow_ends : (follow : List ℕ) (k size : ℕ) → follow ≡ follow_to net l k → k ≤ size → size ≤ k → follow ≡ follow_to net l size
-  follow_ends follow k size e a b = let q : k ≡ size = omega arith in e ∙ ap (follow_to net l) q
+  follow_more follow s v h e q =
+      let k : s ≡ s - 1 + 1 = omega arith in
+      let n : s + 1 - 1 ≡ suc (s - 1) = omega arith in
+      rw (n, ← k, q, e)
 
 module _ (net follow l : List ℕ) where
-  pub edges_more : (edges : List ℕ) (k v : ℕ) → edges ≡ edges_to net follow l k → v ≡ feeder_of net follow (k + 4)
-      → set edges (k + 4) v ≡ edges_to net follow l (k + 1)
+  -- one more entry
+  pub edges_more : (edges : List ℕ) (i v : ℕ) → 4 ≤ i → edges ≡ edges_to net follow l (i - 4) → v ≡ feeder_of net follow i
+      → set edges i v ≡ edges_to net follow l (i + 1 - 4)
   unfolding edges_to
-  edges_more edges k v e q = let n = add-one k in rw (e, q) (ap (edges_to net follow l) (sym n))
-
-  pub edges_end : (edges : List ℕ) (k size : ℕ) → edges ≡ edges_to net follow l k → k ≤ size → size ≤ k → edges ≡ edges_to net follow l size
-  edges_end edges k size e a b = let q : k ≡ size = omega arith in e ∙ ap (edges_to net follow l) q
+  edges_more edges i v h e q =
+      let k : i ≡ i - 4 + 4 = omega arith in
+      let n : i + 1 - 4 ≡ suc (i - 4) = omega arith in
+      rw (n, ← k, q, e)
 
 -- the feeder of an entry
 module _ (net follow : List ℕ) (i : ℕ) where

@@ -6,10 +6,10 @@ use Rattle.file_net_graph.proofs.feeder_of.Goals as goal
 pub returns-then-follow-gate-ne1 : goal.returns-then-follow-gate-ne1
 returns-then-follow-gate-ne1 c = sym (feeder_other _ _ _ c.if-follow-gate-ne1.true)
 
-pub returns-then-follow-source-eq1 : goal.returns-then-follow-source-eq1
-returns-then-follow-source-eq1 c =
-    sym (feeder_some _ _ _ _ c.field-source.ensures c.if-follow-gate-ne1.false c.if-follow-source-eq1.true)
+pub returns-then-follow-from-eq1 : goal.returns-then-follow-from-eq1
+returns-then-follow-from-eq1 c =
+    sym (feeder_some _ _ _ _ c.field-source.ensures c.if-follow-gate-ne1.false (rw c.from.ensures at c.if-follow-from-eq1.true))
 
-pub returns : goal.returns
-returns c =
-    sym (feeder_none _ _ _ _ c.field-source.ensures c.if-follow-gate-ne1.false c.if-follow-source-eq1.false)
+pub returns-else-follow-from-eq1 : goal.returns-else-follow-from-eq1
+returns-else-follow-from-eq1 c =
+    sym (feeder_none _ _ _ _ c.field-source.ensures c.if-follow-gate-ne1.false (rw c.from.ensures at c.if-follow-from-eq1.false))

@@ -1,15 +1,18 @@
--- The invariant: signals 1 to k have their marks, and the others are as they were (`follow_to`).
-use Rattle.file_net_graph.proofs.Loading.{follow_more}
+-- The invariant: the signals below s have their marks, and the others are as they were (`follow_to`).
+use mathlib.Core.Path.{refl, ◌∙◌, ap}
 use native.Mathlib.Omega.{arith}
-use lib.ListN.{length-set}
-use Rattle.file_net_graph.specs.Graph.{follow_to}
 use borrow.Author.Rules.{rules}
+use Rattle.file_net_graph.specs.Graph.{follow_to}
+use Rattle.file_net_graph.proofs.Loading.{follow_more}
 use Rattle.file_net_graph.proofs.mark_followed.Goals as goal
 
-pub loop-k-init : goal.loop-k-init
+pub loop-s-init : goal.loop-s-init
 unfolding follow_to
-loop-k-init c = search rules
+loop-s-init c = (omega arith, refl)
 
-pub loop-k-preserved : goal.loop-k-preserved
-loop-k-preserved c =
-    (omega arith, simp length-set c.loop-k.invariant.1, follow_more _ _ _ _ _ _ c.loop-k.invariant.2 c.field.ensures c.mark_of.ensures)
+pub loop-s-preserved : goal.loop-s-preserved
+loop-s-preserved c =
+    (omega arith, follow_more c.args.net.now c.args.follow.now _ c.loop-s.s c.from.result (omega arith) c.loop-s.invariant.1 (rw (← c.field.ensures) (search rules)))
+
+pub returns : goal.returns
+returns c = c.loop-s.invariant.1 ∙ ap (follow_to c.args.net.now c.args.follow.now) (omega arith)
