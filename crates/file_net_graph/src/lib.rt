@@ -9,45 +9,52 @@ ghost use Rattle.file_net_graph.specs.Graph.{follow_to, feeder_of, edges_to, fol
 
 use file_net_line::field;
 
-// The rank-order gates of the network, marked with 1.
-fn mark_followed(net: &[u8], size: u16, follow: &mut [u8])
-    requires lines { Lines net.now size }
-    requires follow_len { length follow.old ≡ 4097 }
-    ensures { follow.new ≡ follow_to net.now follow.old size }
-{
-    for s in 1..usize::from(size) + 1 {
-        follow[s] = u8::from(field(net, s, 0) == 3);
-    }
+// A network of which the lines were found right.
+#[derive(Clone, Copy)]
+struct Network<'a> {
+    net: &'a [u8],
+    size: u16,
+    ghost lines: { Lines net.now size },
 }
 
-// The feeder that entry i of the graph names, 0 for none.
-fn feeder_of(net: &[u8], size: u16, follow: &[u8], i: usize) -> u16
-    requires lines { Lines net.now size }
-    requires follow_len { length follow.now ≡ 4097 }
-    requires is_entry { (4 ≤ i) × (i < 4 * size + 4) }
-    ensures { result ≡ feeder_of net.now follow.now i }
-{
-    let gate = i / 4;
-    if follow[gate] != 1 {
-        return 0;
+impl<'a> Network<'a> {
+    // The rank-order gates, marked with 1.
+    fn mark_followed(&self, follow: &mut [u8])
+        requires { length follow.old ≡ 4097 }
+        ensures { follow.new ≡ follow_to self.now.net.now follow.old self.now.size }
+    {
+        for s in 1..usize::from(self.size) + 1 {
+            follow[s] = u8::from(field(self.net, s, 0) == 3);
+        }
     }
-    let source = field(net, gate, 8 + i % 4);
-    if follow[usize::from(source)] == 1 {
-        source
-    } else {
-        0
-    }
-}
 
-// The graph of the rank-order gates.
-fn load_edges(net: &[u8], size: u16, follow: &[u8], edges: &mut [u16])
-    requires lines { Lines net.now size }
-    requires follow_len { length follow.now ≡ 4097 }
-    requires edges_len { length edges.old ≡ 16388 }
-    ensures { edges.new ≡ edges_to net.now follow.now edges.old (4 * size) }
-{
-    for i in 4..4 * usize::from(size) + 4 {
-        edges[i] = feeder_of(net, size, follow, i);
+    // The feeder that entry i of the graph names, 0 for none.
+    fn feeder_of(&self, follow: &[u8], i: usize) -> u16
+        requires follow_len { length follow.now ≡ 4097 }
+        requires is_entry { (4 ≤ i) × (i < 4 * self.now.size + 4) }
+        ensures { result ≡ feeder_of self.now.net.now follow.now i }
+    {
+        let gate = i / 4;
+        if follow[gate] != 1 {
+            return 0;
+        }
+        let source = field(self.net, gate, 8 + i % 4);
+        if follow[usize::from(source)] == 1 {
+            source
+        } else {
+            0
+        }
+    }
+
+    // The graph of the rank-order gates.
+    fn load_edges(&self, follow: &[u8], edges: &mut [u16])
+        requires follow_len { length follow.now ≡ 4097 }
+        requires edges_len { length edges.old ≡ 16388 }
+        ensures { edges.new ≡ edges_to self.now.net.now follow.now edges.old (4 * self.now.size) }
+    {
+        for i in 4..4 * usize::from(self.size) + 4 {
+            edges[i] = self.feeder_of(follow, i);
+        }
     }
 }
 
@@ -59,6 +66,7 @@ pub fn load_graph(net: &[u8], size: u16, follow: &mut [u8], edges: &mut [u16])
     ensures edges_after { edges.new ≡ edges_of net.now size }
     ensures graph { IsGraph follow.new edges.new size }
 {
-    mark_followed(net, size, follow);
-    load_edges(net, size, follow, edges);
+    let network = Network { net, size };
+    network.mark_followed(follow);
+    network.load_edges(follow, edges);
 }

@@ -2,7 +2,7 @@
 use Prim.Native.Nat.{◌+◌, ◌-◌, ◌≤◌}
 use mathlib.Core.Path.{◌≡◌}
 use Rattle.file_net_graph.specs.Graph.{follow_to}
-use Rattle.file_net_graph.proofs.mark_followed.Given as goal
+use Rattle.file_net_graph.proofs.Network.mark_followed.Given as goal
 
 abbrev pub invariant-loop-s : goal.invariant-loop-s
-invariant-loop-s l = (l.s ≤ l.size + 1) × (l.follow ≡ follow_to l.net l.initial.follow (l.s - 1))
+invariant-loop-s l = (l.s ≤ l.self.size + 1) × (l.follow ≡ follow_to l.self.net.now l.initial.follow (l.s - 1))

@@ -3,7 +3,7 @@ use mathlib.Core.Path.{refl}
 use native.Mathlib.Omega.{arith}
 use Rattle.file_net_graph.specs.Graph.{edges_to}
 use Rattle.file_net_graph.proofs.Loading.{edges_more}
-use Rattle.file_net_graph.proofs.load_edges.Goals as goal
+use Rattle.file_net_graph.proofs.Network.load_edges.Goals as goal
 
 pub loop-i-init : goal.loop-i-init
 unfolding edges_to

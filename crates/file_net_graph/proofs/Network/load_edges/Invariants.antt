@@ -2,7 +2,7 @@
 use Prim.Native.Nat.{◌-◌}
 use mathlib.Core.Path.{◌≡◌}
 use Rattle.file_net_graph.specs.Graph.{edges_to}
-use Rattle.file_net_graph.proofs.load_edges.Given as goal
+use Rattle.file_net_graph.proofs.Network.load_edges.Given as goal
 
 abbrev pub invariant-loop-i : goal.invariant-loop-i
-invariant-loop-i l = l.edges ≡ edges_to l.net l.follow l.initial.edges (l.i - 4)
+invariant-loop-i l = l.edges ≡ edges_to l.self.net.now l.follow l.initial.edges (l.i - 4)
