@@ -9,15 +9,20 @@ ghost use Rattle.file_net_chains.specs.Chain.{chain_check};
 
 use file_net_graph::load_graph;
 use graph_chains::first_loop;
-use graph_ranks::{ENTRIES, PLACES};
+use graph_ranks::{ENTRIES, Graph, PLACES};
 
-// The smallest signal on a closed chain of rank-order gates, 0 for none.
-pub fn first_chain(net: &[u8], size: u16) -> u16
+// The smallest signal on a closed chain of rank-order gates, if there is one.
+pub fn first_chain(net: &[u8], size: u16) -> Option<u16>
     requires { Lines net.now size }
     ensures { chain_check result ≡ net_chains net.now }
 {
     let mut follow = [0u8; PLACES];
     let mut edges = [0u16; ENTRIES];
     load_graph(net, size, &mut follow, &mut edges);
-    first_loop(&follow, &edges, size as usize)
+    let graph = Graph {
+        follow: &follow,
+        edges: &edges,
+        size: usize::from(size),
+    };
+    first_loop(&graph)
 }
