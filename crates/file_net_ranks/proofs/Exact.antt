@@ -9,7 +9,7 @@ use native.Mathlib.Numerals.{add-one}
 use lib.ListN.{length, get_or}
 use Rattle.std.specs.Prelude.{if◌then◌else◌}
 use Rattle.logic.proofs.Listed.{is_listed}
-use Rattle.graph_ranks.specs.Graph.{Followed, FirstLoop}
+use Rattle.graph_ranks.specs.Graph.{Followed, NoLoops}
 use Rattle.graph_ranks.specs.Ranks.{highest_to, Ranked}
 use Rattle.graph_chains.proofs.Walk.{all_have_ranks}
 use Rattle.model.specs.Network.{Signal, is_signal, rank_order}
@@ -31,13 +31,8 @@ module _ (net : List ℕ) (checked : Checked net) (size : ℕ) (is : size ≡ ne
   lines = checked_lines net checked size is
 
   -- no closed chain is no loop
-  no_loops : FirstLoop (edges_of net size) size 0
-  no_loops = record {
-    none = λ _ s low high loop. checked_acyclic net checked s (path_chain net size lines loop);
-    node = omega arith;
-    loops = λ l. absurd (omega arith);
-    smallest = λ s low l. absurd (omega arith);
-  }
+  no_loops : NoLoops (edges_of net size) size
+  no_loops s low high loop = checked_acyclic net checked s (path_chain net size lines loop)
 
   module _ (ranks : List ℕ) (ranked : Ranked (follow_of net size) (edges_of net size) size ranks) where
     abbrev rank : ℕ → ℕ
