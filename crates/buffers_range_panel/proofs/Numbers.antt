@@ -69,6 +69,9 @@ module _ (panel : List ℕ) where
         mask_high = leb-true _ _ (and_right _ _ d);
       }
 
+  pub head_signals : head_ranged panel ≡ true → signals_in panel ≤ 4096
+  head_signals e = (head_numbers e).signals_high
+
   pub numbers_head : Head panel → head_ranged panel ≡ true
   unfolding head_ranged
   numbers_head h =
