@@ -15,22 +15,12 @@ use buffers_tables::{PANEL_BYTES, PROGRAM_BYTES};
 pub fn lengths_right(panel: &[u8], program: &[u8], memory: &[u8]) -> bool
     ensures { result ≡ same_lengths (lengths_lent panel.now program.now memory.now) fixed }
 {
-    if panel.len() != PANEL_BYTES {
-        return false;
-    }
-    if program.len() != PROGRAM_BYTES {
-        return false;
-    }
-    memory.len() == MEMORY_BYTES
+    panel.len() == PANEL_BYTES && program.len() == PROGRAM_BYTES && memory.len() == MEMORY_BYTES
 }
 
 // A buffer that holds one value throughout.
 pub fn fill(bytes: &mut [u8], value: u8)
     ensures { bytes.new ≡ listed (length bytes.old) (λ a. value) }
 {
-    let mut a: usize = 0;
-    while a < bytes.len() {
-        bytes[a] = value;
-        a += 1;
-    }
+    bytes.fill(value);
 }

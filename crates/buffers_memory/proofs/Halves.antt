@@ -5,9 +5,10 @@ use mathlib.Core.Bool.{Bool, true, false}
 use mathlib.Core.List.{List}
 use native.Mathlib.Omega.{arith}
 use lib.ListN.{length, get_or, set, length-set}
+use Rattle.std.specs.List.{SwappedAt}
 use Rattle.model.specs.Machine.{Memory, fetch, alternate}
 use Rattle.buffers_memory.specs.Memory.{memory_length, processor_parts, blank, place, memory_of, written, within, here, below, with_memory}
-use Rattle.buffers_memory.proofs.Written.{Place, is_written, written_else, written_join, written_kept, stored_there, stored_else}
+use Rattle.buffers_memory.proofs.Written.{Place, place_same, is_written, written_else, written_join, written_kept}
 use Rattle.buffers_memory.proofs.Regions.{here_written, below_none, within_none, below_here, below_else, here_new, within_below, within_else, below_new}
 
 -- the part whose half it changes with
@@ -32,96 +33,39 @@ other_low (suc zero) h = omega arith
 other_low (suc (suc zero)) h = omega arith
 other_low (suc (suc (suc part))) h = omega arith
 
-low_apart : (a b : ℕ) → a < b → a ≡ b → ⊥
-low_apart a b h e = omega arith
+swapped_length : (l m : List ℕ) (a b : ℕ) → SwappedAt l m a b → length m ≡ length l
+swapped_length l m a b s = ap length (s.3 0) ∙ length-set (set l a (get_or l b 0)) b (get_or l a 0) ∙ length-set l a (get_or l b 0)
 
-high_apart : (a b : ℕ) → b < a → a ≡ b → ⊥
-high_apart a b h e = omega arith
-
--- the bytes of two parts of a location, changed
-abbrev swapped : List ℕ → ℕ → ℕ → List ℕ
-swapped l a b = set (set l a (get_or l b 0)) b (get_or l a 0)
-
-swapped_length : (l : List ℕ) (a b : ℕ) → length (swapped l a b) ≡ length l
-swapped_length l a b = length-set (set l a (get_or l b 0)) b (get_or l a 0) ∙ length-set l a (get_or l b 0)
-
+-- the local halves of a location change places, and then those of the switch
 module _ (p k : ℕ) (low : p < 16) (small : k < 256) where
   at : (part : ℕ) → part < processor_parts → Place p part k
   at part h = record { processor_low = low; part_low = h; location_low = small }
 
-  module _ (l : List ℕ) (size : length l ≡ memory_length) (x y : ℕ) (x-low : x < processor_parts) (y-low : y < processor_parts) (differ : x ≡ y → ⊥) where
-    swap_size : length (set l (place p x k) (get_or l (place p y k) 0)) ≡ memory_length
-    swap_size = length-set l (place p x k) (get_or l (place p y k) 0) ∙ size
-
-    swap_first : get_or (swapped l (place p x k) (place p y k)) (place p x k) 0 ≡ get_or l (place p y k) 0
-    swap_first =
-        stored_else (set l (place p x k) (get_or l (place p y k) 0)) swap_size (at y y-low) (get_or l (place p x k) 0) (at x x-low) (λ e. differ e.1)
-        ∙ stored_there l size (at x x-low) (get_or l (place p y k) 0)
-
-    swap_second : get_or (swapped l (place p x k) (place p y k)) (place p y k) 0 ≡ get_or l (place p x k) 0
-    swap_second = stored_there (set l (place p x k) (get_or l (place p y k) 0)) swap_size (at y y-low) (get_or l (place p x k) 0)
-
-    swap_else : {q part j : ℕ} → Place q part j → ((q ≡ p) × (part ≡ x) × (j ≡ k) → ⊥) → ((q ≡ p) × (part ≡ y) × (j ≡ k) → ⊥)
-        → get_or (swapped l (place p x k) (place p y k)) (place q part j) 0 ≡ get_or l (place q part j) 0
-    swap_else a d e =
-        stored_else (set l (place p x k) (get_or l (place p y k) 0)) swap_size (at y y-low) (get_or l (place p x k) 0) a e
-        ∙ stored_else l size (at x x-low) (get_or l (place p y k) 0) a d
-
-  module _ (l : List ℕ) (size : length l ≡ memory_length) where
-    locals : List ℕ
-    locals = swapped l (place p 0 k) (place p 1 k)
-
-    all_four : List ℕ
-    all_four = swapped locals (place p 2 k) (place p 3 k)
-
-    locals_size : length locals ≡ memory_length
-    unfolding locals
-    locals_size = swapped_length l (place p 0 k) (place p 1 k) ∙ size
-
-    four_at : (part : ℕ) → part < blank → get_or all_four (place p part k) 0 ≡ get_or l (place p (other part) k) 0
-    unfolding locals all_four other
-    four_at zero h =
-        swap_else locals locals_size 2 3 (omega arith) (omega arith) (low_apart 2 3 (omega arith)) (at 0 (omega arith))
-        (λ e. low_apart 0 2 (omega arith) e.1) (λ e. low_apart 0 3 (omega arith) e.1)
-        ∙ swap_first l size 0 1 (omega arith) (omega arith) (low_apart 0 1 (omega arith))
-    four_at (suc zero) h =
-        swap_else locals locals_size 2 3 (omega arith) (omega arith) (low_apart 2 3 (omega arith)) (at 1 (omega arith))
-        (λ e. low_apart 1 2 (omega arith) e.1) (λ e. low_apart 1 3 (omega arith) e.1)
-        ∙ swap_second l size 0 1 (omega arith) (omega arith) (low_apart 0 1 (omega arith))
-    four_at (suc (suc zero)) h =
-        swap_first locals locals_size 2 3 (omega arith) (omega arith) (low_apart 2 3 (omega arith))
-        ∙ swap_else l size 0 1 (omega arith) (omega arith) (low_apart 0 1 (omega arith)) (at 3 (omega arith)) (λ e. high_apart 3 0 (omega arith) e.1) (λ e. high_apart 3 1 (omega arith) e.1)
-    four_at (suc (suc (suc zero))) h =
-        swap_second locals locals_size 2 3 (omega arith) (omega arith) (low_apart 2 3 (omega arith))
-        ∙ swap_else l size 0 1 (omega arith) (omega arith) (low_apart 0 1 (omega arith)) (at 2 (omega arith)) (λ e. high_apart 2 0 (omega arith) e.1) (λ e. high_apart 2 1 (omega arith) e.1)
+  module _ (l m r : List ℕ) (local : SwappedAt l m (place p 0 k) (place p 1 k)) (switch : SwappedAt m r (place p 2 k) (place p 3 k)) where
+    four_at : (part : ℕ) → part < blank → get_or r (place p part k) 0 ≡ get_or l (place p (other part) k) 0
+    unfolding other
+    four_at zero h = switch.2 (place p 0 k) 0 (λ e. omega arith) (λ e. omega arith) ∙ local.0 0
+    four_at (suc zero) h = switch.2 (place p 1 k) 0 (λ e. omega arith) (λ e. omega arith) ∙ local.1 0
+    four_at (suc (suc zero)) h = switch.0 0 ∙ local.2 (place p 3 k) 0 (λ e. omega arith) (λ e. omega arith)
+    four_at (suc (suc (suc zero))) h = switch.1 0 ∙ local.2 (place p 2 k) 0 (λ e. omega arith) (λ e. omega arith)
     four_at (suc (suc (suc (suc part)))) h = absurd (omega arith)
 
-    four_else : {q part j : ℕ} → Place q part j → ((q ≡ p) × (part < blank) × (j ≡ k) → ⊥)
-        → get_or all_four (place q part j) 0 ≡ get_or l (place q part j) 0
-    unfolding locals all_four
-    four_else a d =
-        swap_else locals locals_size 2 3 (omega arith) (omega arith) (low_apart 2 3 (omega arith)) a
-        (λ e. d (e.0, omega (arith, e.1), e.2)) (λ e. d (e.0, omega (arith, e.1), e.2))
-        ∙ swap_else l size 0 1 (omega arith) (omega arith) (low_apart 0 1 (omega arith)) a
-        (λ e. d (e.0, omega (arith, e.1), e.2)) (λ e. d (e.0, omega (arith, e.1), e.2))
+    four_else : {q part j : ℕ} → Place q part j → ((q ≡ p) × (part < blank) × (j ≡ k) → ⊥) → get_or r (place q part j) 0 ≡ get_or l (place q part j) 0
+    four_else {q} {part} {j} a d =
+        switch.2 (place q part j) 0 (apart 2 (omega arith)) (apart 3 (omega arith)) ∙ local.2 (place q part j) 0 (apart 0 (omega arith)) (apart 1 (omega arith))
+      where
+        apart : (x : ℕ) → x < blank → place q part j ≡ place p x k → ⊥
+        apart x h e = let same = place_same (at x (omega arith)) a e in d (same.0, omega (arith, same.1), same.2)
 
-    four_written : all_four ≡ written (here p k) (alternate (memory_of l)) l
-    unfolding all_four
-    four_written =
-        here_written p k (alternate (memory_of l)) l all_four (swapped_length locals (place p 2 k) (place p 3 k) ∙ locals_size)
+    four_written : length l ≡ memory_length → r ≡ written (here p k) (alternate (memory_of l)) l
+    four_written size =
+        here_written p k (alternate (memory_of l)) l r (swapped_length m r _ _ switch ∙ swapped_length l m _ _ local ∙ size)
         (λ part h. four_at part h ∙ sym (alternated_at l p part k h)) (λ q part j a d. four_else a d)
 
-  -- what the stores at the places of the four parts leave
-  pub exchanged : (l : List ℕ) → length l ≡ memory_length → (a b c d : ℕ) → a ≡ place p 0 k → b ≡ place p 1 k → c ≡ place p 2 k → d ≡ place p 3 k
-      → (m r : List ℕ) → m ≡ swapped l a b → r ≡ swapped m c d → r ≡ written (here p k) (alternate (memory_of l)) l
-  unfolding all_four locals
-  exchanged l size a b c d ea eb ec ed m r em er =
-      er ∙ ap (λ (x : List ℕ). swapped x c d) em
-      ∙ ap (λ (x : ℕ). swapped (swapped l x b) c d) ea
-      ∙ ap (λ (x : ℕ). swapped (swapped l (place p 0 k) x) c d) eb
-      ∙ ap (λ (x : ℕ). swapped (swapped l (place p 0 k) (place p 1 k)) x d) ec
-      ∙ ap (λ (x : ℕ). swapped (swapped l (place p 0 k) (place p 1 k)) (place p 2 k) x) ed
-      ∙ four_written l size
+  -- what the swaps at the places of the four parts leave
+  pub exchanged : (l m r : List ℕ) → length l ≡ memory_length → (a b c d : ℕ) → a ≡ place p 0 k → b ≡ place p 1 k → c ≡ place p 2 k → d ≡ place p 3 k
+      → SwappedAt l m a b → SwappedAt m r c d → r ≡ written (here p k) (alternate (memory_of l)) l
+  exchanged l m r size a b c d ea eb ec ed local switch = four_written l m r (rw (ea, eb) at local) (rw (ec, ed) at switch) size
 
 -- one more region: in m, which holds the other halves where the first test passes, the halves change where the second does
 more_alternated : (first second both : ℕ → ℕ → Bool) (old m r : List ℕ) → m ≡ written first (alternate (memory_of old)) old

@@ -2,7 +2,7 @@
 
 #![tactic(auto)]
 
-ghost use Rattle.std.specs.Prelude.{◌≡◌, ◌+◌, ◌*◌, ◌<◌, ◌≤◌, length, get_or, set};
+ghost use Rattle.std.specs.Prelude.{◌≡◌, ◌+◌, ◌*◌, ◌<◌, ◌≤◌, length, set};
 ghost use Rattle.gates.specs.Value.{Code};
 ghost use Rattle.model.specs.Machine.{fetch as fetched, alternate as alternated};
 ghost use Rattle.instruction.specs.Operand.{part_of, location_of};
@@ -46,15 +46,16 @@ fn location_of(a: Operand) -> usize
     ensures { (result ≡ location_of a) × (result < 256) }
 {
     match a {
-        Operand::LocalEarlier(k) => k as usize,
-        Operand::LocalPresent(k) => k as usize,
-        Operand::SwitchEarlier(k) => k as usize,
-        Operand::SwitchPresent(k) => k as usize,
-        Operand::None(k) => k as usize,
+        Operand::LocalEarlier(k)
+        | Operand::LocalPresent(k)
+        | Operand::SwitchEarlier(k)
+        | Operand::SwitchPresent(k)
+        | Operand::None(k) => usize::from(k),
     }
 }
 
 // The value at the location that an operand names.
+#[tactic(auto, using(crate::proofs::Fetched::fetched_there))]
 pub fn fetch(memory: &[u8], processor: usize, a: Operand) -> u8
     requires memory_bytes { MemoryBytes memory.now }
     requires processor_bound { processor < 16 }
@@ -71,47 +72,34 @@ pub fn store(memory: &mut [u8], processor: usize, part: usize, location: usize, 
     memory[PROCESSOR_STRIDE * processor + PART_STRIDE * part + location] = value;
 }
 
-// The byte at a place and the one of the next part change places.
-fn swap(memory: &mut [u8], at: usize)
-    requires { (length memory.old ≡ memory_length) × (at + part_stride < memory_length) }
-    ensures { memory.new ≡ set (set memory.old at (get_or memory.old (at + part_stride) 0)) (at + part_stride) (get_or memory.old at 0) }
-{
-    let low = memory[at];
-    let high = memory[at + PART_STRIDE];
-    memory[at] = high;
-    memory[at + PART_STRIDE] = low;
-}
-
 // "Halves alternate": the parts 0 and 1, and 2 and 3, change places in one location.
 fn exchange(memory: &mut [u8], processor: usize, location: usize)
     requires { (length memory.old ≡ memory_length) × (processor < 16) × (location < 256) }
     ensures { memory.new ≡ written (here processor location) (alternated (memory_of memory.old)) memory.old }
 {
     let at = PROCESSOR_STRIDE * processor + location;
-    swap(memory, at);
-    swap(memory, at + 2 * PART_STRIDE);
+    memory.swap(at, at + PART_STRIDE);
+    memory.swap(at + 2 * PART_STRIDE, at + 3 * PART_STRIDE);
 }
 
 // The same in the locations of one processor.
+#[tactic(auto, using(crate::proofs::Halves::none_below, crate::proofs::Halves::location_alternated))]
 fn alternate_one(memory: &mut [u8], processor: usize, slots: usize)
     requires { (length memory.old ≡ memory_length) × (processor < 16) × (slots ≤ 256) }
     ensures { memory.new ≡ written (below processor slots) (alternated (memory_of memory.old)) memory.old }
 {
-    let mut k: usize = 0;
-    while k < slots {
+    for k in 0..slots {
         exchange(memory, processor, k);
-        k += 1;
     }
 }
 
 // "Halves alternate each cycle": the earlier half is what this cycle stored.
+#[tactic(auto, using(crate::proofs::Halves::none_within, crate::proofs::Halves::processor_alternated))]
 pub fn alternate(memory: &mut [u8], processors: usize, slots: usize)
     requires { (length memory.old ≡ memory_length) × (processors ≤ 16) × (slots ≤ 256) }
     ensures { memory.new ≡ with_memory processors slots (alternated (memory_of memory.old)) memory.old }
 {
-    let mut p: usize = 0;
-    while p < processors {
+    for p in 0..processors {
         alternate_one(memory, p, slots);
-        p += 1;
     }
 }

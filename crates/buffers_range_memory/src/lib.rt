@@ -11,29 +11,26 @@ ghost use Rattle.buffers_range_memory.specs.Order.{values_in, part_at, parts_at}
 use buffers_memory::{BLANK, MEMORY_PARTS, PART_STRIDE, PROCESSOR_PARTS};
 
 // How many values the part of the memory with this index holds: C in the four parts of P processors, and none elsewhere.
-#[tactic(auto, using(crate::proofs::Values::no_processor, crate::proofs::Values::no_part, crate::proofs::Values::module_part))]
+#[tactic(auto, using(logic::proofs::Judged::connected), unfolding(crate::specs::Order::values_in))]
 fn values_in(index: usize, processors: u8, slots: u16) -> usize
     requires { (index < memory_parts) × (slots ≤ 256) }
     ensures { (result ≡ values_in processors slots index) × (result ≤ 256) }
 {
-    if (processors as usize) <= index / PROCESSOR_PARTS {
-        return 0;
+    if index / PROCESSOR_PARTS < usize::from(processors) && index % PROCESSOR_PARTS < BLANK {
+        usize::from(slots)
+    } else {
+        0
     }
-    if BLANK <= index % PROCESSOR_PARTS {
-        return 0;
-    }
-    slots as usize
 }
 
 // The 256 bytes of a part: values in the module's slots, and zeros.
+#[tactic(auto, using(logic::proofs::Judged::connected), unfolding(crate::specs::Order::part_at))]
 fn part_right(memory: &[u8], at: usize, values: usize) -> bool
     requires { (at + part_stride ≤ length memory.now) × (values ≤ part_stride) }
     ensures { result ≡ part_at memory.now at values }
 {
-    if !buffers_runs::all_values(memory, at, values) {
-        return false;
-    }
-    buffers_runs::all_zero(memory, at + values, PART_STRIDE - values)
+    buffers_runs::all_values(memory, at, values)
+        && buffers_runs::all_zero(memory, at + values, PART_STRIDE - values)
 }
 
 // The memory: 16 processors of five parts.
@@ -41,20 +38,14 @@ fn parts_right(memory: &[u8], processors: u8, slots: u16) -> bool
     requires { (length memory.now ≡ memory_length) × (slots ≤ 256) }
     ensures { result ≡ parts_at memory.now processors slots }
 {
-    let mut j: usize = 0;
-    while j < MEMORY_PARTS {
-        if !part_right(memory, PART_STRIDE * j, values_in(j, processors, slots)) {
-            return false;
-        }
-        j += 1;
-    }
-    true
+    (0..MEMORY_PARTS).all(|j| part_right(memory, PART_STRIDE * j, values_in(j, processors, slots)))
 }
 
 // The memory, P and C being the panel's.
+#[tactic(auto, using(crate::proofs::Parts::memory_order))]
 pub fn memory_right(panel: &[u8], memory: &[u8]) -> bool
-    requires panel_len { (length panel.now ≡ panel_length) × (length memory.now ≡ memory_length) }
-    requires panel_bound { slots_in panel.now ≤ 256 }
+    requires lengths { (length panel.now ≡ panel_length) × (length memory.now ≡ memory_length) }
+    requires slots_high { slots_in panel.now ≤ 256 }
     ensures { result ≡ memory_ranged panel.now memory.now }
 {
     parts_right(

@@ -69,6 +69,9 @@ module _ (panel : List ℕ) where
         mask_high = leb-true _ _ (and_right _ _ d);
       }
 
+  pub head_signals : head_ranged panel ≡ true → signals_in panel ≤ 4096
+  head_signals e = (head_numbers e).signals_high
+
   pub numbers_head : Head panel → head_ranged panel ≡ true
   unfolding head_ranged
   numbers_head h =
@@ -125,6 +128,12 @@ module _ (panel : List ℕ) where
         rest = λ x low l.
             zeros_byte panel (signal_start (signals_in panel + 1)) (panel_stride * (4096 - signals_in panel)) (and_right _ _ later) x low (omega arith);
       }
+
+  pub processors_limit : panel_ranged panel ≡ true → processors_in panel ≤ 16
+  processors_limit e = (ranged_panel e).head.processors_high
+
+  pub slots_limit : panel_ranged panel ≡ true → slots_in panel ≤ 256
+  slots_limit e = (ranged_panel e).head.slots_high
 
   pub panel_ranged_lem : Panel panel → panel_ranged panel ≡ true
   unfolding panel_ranged

@@ -1,7 +1,7 @@
 -- Counted faults: there is none of a pair exactly when it is in range, and none of several exactly when there is none of each.
 use Prim.Native.Nat.{ℕ, ◌+◌, ◌-◌, ◌*◌, ◌<◌, ◌≤◌}
-use mathlib.Core.Path.{◌≡◌, refl, sym, ◌∙◌}
-use mathlib.Core.Bool.{Bool, true, false, true≢false}
+use mathlib.Core.Path.{◌≡◌, refl, sym}
+use mathlib.Core.Bool.{Bool, true, false}
 use native.Mathlib.Omega.{arith}
 use lib.Dec.{eqb, leb, ltb}
 use borrow.Author.Tests.{eqb-true, eqb-false, leb-true, leb-false, eq-eqb, ne_eqb, lt-ltb, le-ltb, le-leb, lt-leb}
@@ -9,18 +9,18 @@ use Rattle.logic.specs.Test.{◌and◌, one}
 use Rattle.logic.proofs.Tests.{and_true, and_left, and_right}
 use Rattle.std.specs.Prelude.{if◌then◌else◌}
 use Rattle.buffers_range_program.specs.Order.{pair_ranged}
-use Rattle.logic.proofs.Judged.{same_test, yes}
+use Rattle.logic.proofs.Judged.{same_test}
 
 module _ (slots most part k : ℕ) (parts : most < 9) (some : 1 ≤ slots) where
   -- a pair that is none has a part above most
-  none_fault : one (eqb (part + 256 * k) 9) ≤ one (leb (most + 1) part)
+  pub none_fault : one (eqb (part + 256 * k) 9) ≤ one (leb (most + 1) part)
   none_fault = go (eqb (part + 256 * k) 9) refl
     where
       go : (b : Bool) → eqb (part + 256 * k) 9 ≡ b → one b ≤ one (leb (most + 1) part)
       go true e = let q = eqb-true (part + 256 * k) 9 e in rw (le-leb (most + 1) part (omega arith)) (omega arith)
       go false e = omega arith
 
-  pair_fault : eqb (one (leb (most + 1) part) + one (leb slots k) - one (eqb (part + 256 * k) 9)) 0 ≡ pair_ranged slots most part k
+  pub pair_fault : eqb (one (leb (most + 1) part) + one (leb slots k) - one (eqb (part + 256 * k) 9)) 0 ≡ pair_ranged slots most part k
   unfolding pair_ranged ◌and◌
   pair_fault = go (eqb (part + 256 * k) 9) refl (leb (most + 1) part) refl (leb slots k) refl
     where
@@ -46,17 +46,8 @@ module _ (slots most part k : ℕ) (parts : most < 9) (some : 1 ≤ slots) where
           let h = leb-false (most + 1) part f in
           rw (lt-ltb k slots (leb-false slots k g), ne_eqb part 9 (λ (x : part ≡ 9). omega arith), le-leb part most (omega arith))
 
--- the same of the counts that the code makes, x, l and n, of the numbers that it reads
-module _ {x l n p' k' w slots most part k : ℕ} (parts : most < 9) (some : 1 ≤ slots) (p-is : p' ≡ part) (k-is : k' ≡ k)
-    (w-is : w ≡ part + 256 * k) (x-is : x ≡ one (leb (most + 1) p')) (l-is : l ≡ one (leb slots k')) (n-is : n ≡ one (eqb w 9)) where
-  pub counted_faults : (n ≤ x) × (eqb (x + l - n) 0 ≡ pair_ranged slots most part k)
-  counted_faults = (
-    rw (n-is, x-is, w-is, p-is) (none_fault slots most part k parts some),
-    rw (n-is, x-is, l-is, w-is, p-is, k-is) (pair_fault slots most part k parts some),
-  )
-
 -- two and four counts
-both_none : (a b : ℕ) (p q : Bool) → eqb a 0 ≡ p → eqb b 0 ≡ q → eqb (a + b) 0 ≡ p and q
+pub both_none : (a b : ℕ) (p q : Bool) → eqb a 0 ≡ p → eqb b 0 ≡ q → eqb (a + b) 0 ≡ p and q
 both_none a b p q e f =
     rw (← e, ← f)
     (same_test (eqb (a + b) 0) (eqb a 0 and eqb b 0)
@@ -68,19 +59,3 @@ pub four_none : (a b c d : ℕ) (p q r s : Bool) → eqb a 0 ≡ p → eqb b 0 �
 four_none a b c d p q r s e f g h =
     let l : a + b + c + d ≡ a + (b + (c + d)) = omega arith in
     rw l (both_none a (b + (c + d)) p (q and r and s) e (both_none b (c + d) q (r and s) f (both_none c d r s g h)))
-
--- a chain of two judgements by their counts: it stops where there is a fault, and else goes on
-module _ (a b : ℕ) (p q rest : Bool) (e : eqb a 0 ≡ p) (f : eqb b 0 ≡ q) where
-  pub faults_stop : (a + b ≡ 0 → ⊥) → p and q and rest ≡ false
-  unfolding ◌and◌
-  faults_stop d = go p q (sym (both_none a b p q e f) ∙ ne_eqb (a + b) 0 d)
-    where
-      go : (p q : Bool) → p and q ≡ false → p and q and rest ≡ false
-      go true true h = absurd (true≢false h)
-      go true false h = refl
-      go false q h = refl
-
-  pub faults_go_on : a + b ≡ 0 → p and q and rest ≡ rest
-  faults_go_on z =
-      let h = sym (both_none a b p q e f) ∙ eq-eqb (a + b) 0 z in
-      yes p (q and rest) (and_left p q h) ∙ yes q rest (and_right p q h)

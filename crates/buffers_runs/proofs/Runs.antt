@@ -1,37 +1,35 @@
 -- What the largest byte of a run tells: a test that passes of every number below one that passes, passes of the whole run exactly when it
 -- passes of the largest.
-use Prim.Native.Nat.{ℕ, zero, suc, ◌+◌, ◌-◌, ◌<◌, ◌≤◌}
-use mathlib.Core.Path.{◌≡◌, refl, sym, subst, ◌∙◌, ap}
-use mathlib.Core.Bool.{Bool, true, false}
+use Prim.Native.Nat.{ℕ, zero, suc, ◌+◌, ◌-◌, ◌<◌, ◌≤◌, max}
+use mathlib.Core.Path.{◌≡◌, refl, subst, ◌∙◌, ap}
+use mathlib.Core.Bool.{Bool, true}
+use mathlib.Core.Logic.{⊎_elim}
 use mathlib.Core.List.{List}
 use native.Mathlib.Omega.{arith}
-use lib.Dec.{eqb, leb, ltb}
-use lib.ListN.{get_or}
-use borrow.Author.Tests.{ltb-true, ltb-false, leb-true, le-leb, eqb-true, eq-eqb}
+use native.Mathlib.Numerals.{add-one}
+use lib.Dec.{eqb, leb}
+use lib.ListN.{length, get_or, take, drop}
+use Rattle.std.proofs.Math.Nat.{le-max_left, le-max_right, max-eq_left, max-eq_right}
+use Rattle.std.proofs.lemmas.Bool.{cases_lt}
+use Rattle.std.proofs.lemmas.List.{get_or-take, get_or-drop, length-take}
+use borrow.Author.Tests.{leb-true, le-leb, eqb-true, eq-eqb}
 use Rattle.logic.specs.Test.{◌and◌, all}
-use Rattle.logic.proofs.Tests.{all_at, all_true}
-use Rattle.std.specs.Prelude.{if◌then◌else◌}
+use Rattle.logic.proofs.Tests.{all_at, all_true, and_true, and_left, and_right}
+use Rattle.logic.proofs.Judged.{same_test}
 use Rattle.gates.specs.Translation.{is_translation}
 use Rattle.buffers_runs.specs.Zeros.{zeros}
-use Rattle.buffers_runs.specs.Largest.{larger, largest_of}
+use Rattle.buffers_runs.specs.Largest.{largest_of}
 
 -- below a number that passes every number passes
 abbrev Falls : (ℕ → Bool) → Type 0
 Falls test = (a b : ℕ) → a ≤ b → test b ≡ true → test a ≡ true
 
 module _ (test : ℕ → Bool) (falls : Falls test) where
-  larger_tells : (a b : ℕ) → test (larger a b) ≡ test a and test b
-  unfolding larger ◌and◌
-  larger_tells a b = go (ltb a b) refl (test a) refl (test b) refl
-    where
-      go : (l : Bool) → ltb a b ≡ l → (x : Bool) → test a ≡ x → (y : Bool) → test b ≡ y → test (if l then b else a) ≡ x and y
-      go true l true f true g = g
-      go true l true f false g = g
-      go true l false f true g = let h = ltb-true a b l in g ∙ sym (falls a b (omega arith) g) ∙ f
-      go true l false f false g = g
-      go false l true f true g = f
-      go false l true f false g = f ∙ sym (falls b a (ltb-false a b l) f) ∙ g
-      go false l false f y g = f
+  larger_tells : (a b : ℕ) → test (max a b) ≡ test a and test b
+  larger_tells a b =
+      same_test (test (max a b)) (test a and test b)
+      (λ e. and_true _ _ (falls a (max a b) (le-max_left a b) e) (falls b (max a b) (le-max_right a b) e))
+      (λ e. ⊎_elim (λ l. rw (max-eq_right {n = a} {m = b} (omega arith)) (and_right _ _ e)) (λ l. rw (max-eq_left {n = a} {m = b} l) (and_left _ _ e)) (cases_lt a b))
 
   largest_tells : (bytes : List ℕ) (at n : ℕ) → test 0 ≡ true → test (largest_of bytes at n) ≡ all n (λ k. test (get_or bytes (at + k) 0))
   unfolding largest_of all
@@ -53,6 +51,14 @@ module _ (bytes : List ℕ) (at n : ℕ) where
   pub largest_translations : is_translation (largest_of bytes at n) ≡ all n (λ k. is_translation (get_or bytes (at + k) 0))
   unfolding is_translation
   largest_translations = largest_limit 6
+
+-- one byte more of a run that is taken as a slice
+pub largest_more : (bytes : List ℕ) (at n i best r : ℕ) → best ≡ largest_of bytes at i → i < length (take n (drop at bytes))
+    → r ≡ max best (get_or (take n (drop at bytes)) i 0) → r ≡ largest_of bytes at (i + 1)
+unfolding largest_of
+largest_more bytes at n i best r e l h =
+    let few : i < n = omega (arith, length-take n (drop at bytes)) in
+    rw (add-one, ← get_or-drop at bytes i 0, ← get_or-take n (drop at bytes) i 0 few, ← e) h
 
 -- the bytes of a run of zeros, and back
 module _ (bytes : List ℕ) (at n : ℕ) where

@@ -6,30 +6,23 @@ ghost use Rattle.std.specs.Prelude.{◌≡◌, ◌+◌, ◌≤◌, leb, length, 
 ghost use Rattle.logic.specs.Test.{all};
 ghost use Rattle.gates.specs.Translation.{is_translation};
 ghost use Rattle.buffers_runs.specs.Zeros.{zeros};
-ghost use Rattle.buffers_runs.specs.Largest.{larger, largest_of};
-
-// The larger of two bytes.
-fn larger_of(a: u8, b: u8) -> u8
-    ensures { result ≡ larger a b }
-{
-    if a < b { b } else { a }
-}
+ghost use Rattle.buffers_runs.specs.Largest.{largest_of};
 
 // The largest of `count` bytes starting at `at`.
+#[tactic(auto, using(crate::proofs::Runs::largest_more), unfolding(crate::specs::Largest::largest_of))]
 fn largest(bytes: &[u8], at: usize, count: usize) -> u8
     requires { at + count ≤ length bytes.now }
     ensures { result ≡ largest_of bytes.now at count }
 {
     let mut best: u8 = 0;
-    let mut k: usize = 0;
-    while k < count {
-        best = larger_of(best, bytes[at + k]);
-        k += 1;
+    for &byte in &bytes[at..at + count] {
+        best = best.max(byte);
     }
     best
 }
 
 // `count` bytes starting at `at` are 0, as every number that is not in use (D25).
+#[tactic(auto, using(crate::proofs::Runs::largest_zeros))]
 pub fn all_zero(bytes: &[u8], at: usize, count: usize) -> bool
     requires { at + count ≤ length bytes.now }
     ensures { result ≡ zeros bytes.now at count }
@@ -38,6 +31,7 @@ pub fn all_zero(bytes: &[u8], at: usize, count: usize) -> bool
 }
 
 // `count` bytes starting at `at` are "a value 0 to 3".
+#[tactic(auto, using(crate::proofs::Runs::largest_limit))]
 pub fn all_values(bytes: &[u8], at: usize, count: usize) -> bool
     requires { at + count ≤ length bytes.now }
     ensures { result ≡ all count (λ k. leb (get_or bytes.now (at + k) 0) 3) }
@@ -46,9 +40,10 @@ pub fn all_values(bytes: &[u8], at: usize, count: usize) -> bool
 }
 
 // `count` bytes starting at `at` are codes of translations.
+#[tactic(auto, using(crate::proofs::Runs::largest_translations))]
 pub fn all_translations(bytes: &[u8], at: usize, count: usize) -> bool
     requires { at + count ≤ length bytes.now }
     ensures { result ≡ all count (λ k. is_translation (get_or bytes.now (at + k) 0)) }
 {
-    gates::is_translation(words::widened(largest(bytes, at, count)))
+    gates::is_translation(u16::from(largest(bytes, at, count)))
 }

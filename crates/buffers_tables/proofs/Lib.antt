@@ -1,4 +1,3 @@
-pub mod Lines
 pub mod Places
 pub mod Stores
 pub mod Hands

@@ -1,10 +1,10 @@
 -- The places of the tables: a byte of the panel has one signal and one column, a byte of the program one line and one column.
-use Prim.Native.Nat.{ℕ, zero, suc, ◌+◌, ◌<◌, ◌≤◌}
-use mathlib.Core.Path.{◌≡◌, refl, ap}
+use Prim.Native.Nat.{ℕ, ◌+◌, ◌<◌, ◌≤◌}
+use mathlib.Core.Path.{◌≡◌, ap}
 use mathlib.Core.List.{List}
 use native.Mathlib.Omega.{arith}
 use lib.ListN.{get_or}
-use Rattle.buffers_tables.specs.Panel.{panel_length, panel_stride, signals_place, processors_place, slots_place, watched_place, head_bytes, kind_column, signal_start, signal_byte, column_in, signal_of, column_of, kind_in}
+use Rattle.buffers_tables.specs.Panel.{panel_length, panel_stride, kind_column, signal_start, signal_byte, column_in, signal_of, column_of, kind_in}
 use Rattle.buffers_tables.specs.Program.{program_length, line_stride, slot_lines, line_in, line_processor, line_slot, line_column}
 
 -- the panel
@@ -33,22 +33,6 @@ module _ (s column : ℕ) (low : column < panel_stride) where
 -- the kind is in the first column
 pub kind_column_lem : (panel : List ℕ) (s : ℕ) → kind_in panel s ≡ column_in panel s kind_column
 kind_column_lem panel s = let q : signal_start s ≡ signal_byte s kind_column = omega arith in ap (λ (x : ℕ). get_or panel x 0) q
-
--- of the session's bytes with 0 cycles finished and mask 0, watching signal 1, those that are 0
-pub head_zeros : (n p c column : ℕ) → (column ≡ signals_place → ⊥) → (column ≡ signals_place + 1 → ⊥) → (column ≡ processors_place → ⊥)
-    → (column ≡ slots_place → ⊥) → (column ≡ slots_place + 1 → ⊥) → (column ≡ watched_place → ⊥) → column < panel_stride
-    → get_or (head_bytes n p c 0 1 0) column 0 ≡ 0
-head_zeros n p c zero d0 d1 d2 d3 d4 d7 h = absurd (d0 refl)
-head_zeros n p c (suc zero) d0 d1 d2 d3 d4 d7 h = absurd (d1 refl)
-head_zeros n p c (suc (suc zero)) d0 d1 d2 d3 d4 d7 h = absurd (d2 refl)
-head_zeros n p c (suc (suc (suc zero))) d0 d1 d2 d3 d4 d7 h = absurd (d3 refl)
-head_zeros n p c (suc (suc (suc (suc zero)))) d0 d1 d2 d3 d4 d7 h = absurd (d4 refl)
-head_zeros n p c (suc (suc (suc (suc (suc zero))))) d0 d1 d2 d3 d4 d7 h = refl
-head_zeros n p c (suc (suc (suc (suc (suc (suc zero)))))) d0 d1 d2 d3 d4 d7 h = refl
-head_zeros n p c (suc (suc (suc (suc (suc (suc (suc zero))))))) d0 d1 d2 d3 d4 d7 h = absurd (d7 refl)
-head_zeros n p c (suc (suc (suc (suc (suc (suc (suc (suc zero)))))))) d0 d1 d2 d3 d4 d7 h = refl
-head_zeros n p c (suc (suc (suc (suc (suc (suc (suc (suc (suc zero))))))))) d0 d1 d2 d3 d4 d7 h = refl
-head_zeros n p c (suc (suc (suc (suc (suc (suc (suc (suc (suc (suc column)))))))))) d0 d1 d2 d3 d4 d7 h = absurd (omega arith)
 
 -- the program
 module _ (p i column : ℕ) (few : p < slot_lines) (low : column < line_stride) where

@@ -2,9 +2,9 @@
 
 #![tactic(auto)]
 
-ghost use Rattle.std.specs.Prelude.{◌≡◌, ◌+◌, ◌<◌, ◌≤◌, length, get_or, set};
+ghost use Rattle.std.specs.Prelude.{◌≡◌, ◌+◌, ◌<◌, ◌≤◌, length, get_or};
 ghost use Rattle.instruction.specs.Operand.{operand_of};
-ghost use Rattle.buffers_tables.specs.Panel.{panel_length, finished_place, watched_place, mask_place, signals_in, processors_in, slots_in, finished_in, watched_in, mask_in, kind_in, codes_in, hand_in, processor_in, slot_in};
+ghost use Rattle.buffers_tables.specs.Panel.{panel_length, finished_place, watched_place, signals_in, processors_in, slots_in, finished_in, watched_in, mask_in, kind_in, codes_in, hand_in, processor_in, slot_in};
 ghost use Rattle.buffers_tables.specs.Stores.{with_finished, with_watch, with_hand};
 ghost use Rattle.buffers_tables.specs.Program.{program_length, line_stride, line_in, signal_at, instruction_in};
 
@@ -78,7 +78,7 @@ pub fn processors(panel: &[u8]) -> usize
     requires { length panel.now ≡ panel_length }
     ensures { (result ≡ processors_in panel.now) × (result < 256) }
 {
-    words::widened(panel[PROCESSORS]) as usize
+    usize::from(panel[PROCESSORS])
 }
 
 // C: the slots of a cycle.
@@ -94,7 +94,7 @@ pub fn finished(panel: &[u8]) -> u16
     requires { length panel.now ≡ panel_length }
     ensures { (result ≡ finished_in panel.now) × (get_or panel.now finished_place 0 < 256) }
 {
-    words::word_of(panel[FINISHED], panel[FINISHED + 1])
+    words::word_at(panel, FINISHED)
 }
 
 // The signal of the watch, likewise.
@@ -102,7 +102,7 @@ pub fn watched(panel: &[u8]) -> u16
     requires { length panel.now ≡ panel_length }
     ensures { (result ≡ watched_in panel.now) × (get_or panel.now watched_place 0 < 256) }
 {
-    words::word_of(panel[WATCHED], panel[WATCHED + 1])
+    words::word_at(panel, WATCHED)
 }
 
 // The mask of the watch.
@@ -150,7 +150,7 @@ pub fn place_processor(panel: &[u8], signal: usize) -> usize
     requires { (length panel.now ≡ panel_length) × (signal ≤ 4096) }
     ensures { (result ≡ processor_in panel.now signal) × (result < 256) }
 {
-    words::widened(panel[PANEL_STRIDE * signal + PROCESSOR]) as usize
+    usize::from(panel[PANEL_STRIDE * signal + PROCESSOR])
 }
 
 pub fn place_slot(panel: &[u8], signal: usize) -> u8
@@ -168,21 +168,13 @@ pub fn set_finished(panel: &mut [u8], number: u16)
     words::store_word(panel, FINISHED, number);
 }
 
-// The mask of the watch, written.
-fn set_mask(panel: &mut [u8], mask: u8)
-    requires { length panel.old ≡ panel_length }
-    ensures { panel.new ≡ set panel.old mask_place mask }
-{
-    panel[MASK] = mask;
-}
-
 // The watch, written: its signal and its mask.
 pub fn set_watch(panel: &mut [u8], signal: u16, mask: u8)
     requires { length panel.old ≡ panel_length }
     ensures { panel.new ≡ with_watch signal mask panel.old }
 {
     words::store_word(panel, WATCHED, signal);
-    set_mask(panel, mask);
+    panel[MASK] = mask;
 }
 
 // The value in hand of a signal, written.
@@ -198,8 +190,7 @@ pub fn line_offset(processor: usize, slot: Slot) -> usize
     requires { (processor < 16) × (slot.0 < 256) }
     ensures { (result ≡ line_in processor slot.0) × (result + line_stride ≤ program_length) }
 {
-    let i = slot.0;
-    LINE_STRIDE * (SLOT_LINES * (i as usize) + processor)
+    LINE_STRIDE * (SLOT_LINES * usize::from(slot.0) + processor)
 }
 
 // The signal of the line of a processor and a slot: 0 where the slot is empty.
@@ -215,7 +206,7 @@ fn named_in(program: &[u8], at: usize) -> Operand
     requires { at + 2 ≤ length program.now }
     ensures { result ≡ operand_of (get_or program.now at 0) (get_or program.now (at + 1) 0) }
 {
-    instruction::operand_of(words::widened(program[at]), program[at + 1])
+    instruction::operand_of(u16::from(program[at]), program[at + 1])
 }
 
 // The line of a processor and a slot, decoded.

@@ -1,7 +1,6 @@
--- `fill` stores one value: the first a bytes are it.
-use Rattle.logic.proofs.Filling.{fill_ends}
-use native.Mathlib.Omega.{arith}
+-- The library's `fill` leaves the value throughout.
+use Rattle.buffers_lengths.proofs.Filled.{filled}
 use Rattle.buffers_lengths.proofs.fill.Goals as goal
 
 pub returns : goal.returns
-returns c = fill_ends c.loop-a.invariant (omega arith)
+returns c = filled _ _ _ (c.fill.ensures.after (λ y e. e))
