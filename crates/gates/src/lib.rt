@@ -60,40 +60,57 @@ pub fn translations() -> [u8; 28]
     table::TRANSLATIONS
 }
 
-// Translation g of the value v.
-fn translate(translations: &[u8], g: u8, v: u8) -> u8
-    requires translation_table { TranslationTable translations.now }
-    requires g_bound { (g ≤ 6) × Code v }
-    ensures { (result ≡ translation g v) × Code result }
-{
-    translations[4 * (g as usize) + (v as usize)]
+// The tables that gates are evaluated by: made once by a caller that evaluates often, and lent by reference.
+#[derive(Drop)]
+pub struct TruthTables {
+    functions: [u8; 1280],
+    translations: [u8; 28],
+    pub ghost right: { GateTables functions translations },
 }
 
-// Function f of four operands.
-fn apply(functions: &[u8], f: u8, a: u8, b: u8, c: u8, d: u8) -> u8
-    requires function_table { FunctionTable functions.now }
-    requires f_bound { (f ≤ 4) × Code a × Code b × Code c × Code d }
-    ensures { (result ≡ function f a b c d) × Code result }
-{
-    functions[256 * (f as usize)
-        + 64 * (a as usize)
-        + 16 * (b as usize)
-        + 4 * (c as usize)
-        + (d as usize)]
+impl TruthTables {
+    // The two tables.
+    pub fn new() -> TruthTables
+        ensures { GateTables result.functions result.translations }
+    {
+        TruthTables {
+            functions: functions(),
+            translations: translations(),
+        }
+    }
+
+    // Translation g of the value v.
+    fn translate(&self, g: u8, v: u8) -> u8
+        requires g_bound { (g ≤ 6) × Code v }
+        ensures { (result ≡ translation g v) × Code result }
+    {
+        self.translations[4 * (g as usize) + (v as usize)]
+    }
+
+    // Function f of four operands.
+    fn apply(&self, f: u8, a: u8, b: u8, c: u8, d: u8) -> u8
+        requires f_bound { (f ≤ 4) × Code a × Code b × Code c × Code d }
+        ensures { (result ≡ function f a b c d) × Code result }
+    {
+        self.functions[256 * (f as usize)
+            + 64 * (a as usize)
+            + 16 * (b as usize)
+            + 4 * (c as usize)
+            + (d as usize)]
+    }
 }
 
 impl Gate {
     // The gate's value on four operands.
-    pub fn value(self, functions: &[u8], translations: &[u8], a1: u8, a2: u8, a3: u8, a4: u8) -> u8
+    pub fn value(self, tables: &TruthTables, a1: u8, a2: u8, a3: u8, a4: u8) -> u8
         requires legal { Legal self }
         requires code { Code a1 × Code a2 × Code a3 × Code a4 }
-        requires gate_tables { GateTables functions.now translations.now }
         ensures { result ≡ gate self a1 a2 a3 a4 }
     {
-        let w = translate(translations, self.g1, a1);
-        let x = translate(translations, self.g2, a2);
-        let y = translate(translations, self.g3, a3);
-        let z = translate(translations, self.g4, a4);
-        translate(translations, self.g5, apply(functions, self.f, w, x, y, z))
+        let w = tables.translate(self.g1, a1);
+        let x = tables.translate(self.g2, a2);
+        let y = tables.translate(self.g3, a3);
+        let z = tables.translate(self.g4, a4);
+        tables.translate(self.g5, tables.apply(self.f, w, x, y, z))
     }
 }

@@ -3,7 +3,6 @@
 #![tactic(auto)]
 
 ghost use Rattle.std.specs.Prelude.{◌≡◌, ℕ, ◌+◌, length};
-ghost use Rattle.gates.specs.Table.{GateTables};
 ghost use Rattle.model.specs.Files.{Files, files_of};
 ghost use Rattle.model.specs.Acceptance.{panel_limit, Accepted};
 ghost use Rattle.model.specs.Stimulus.{stim_count};
@@ -15,6 +14,7 @@ ghost use Rattle.listing.specs.Standing.{Stands, Standing, Gives};
 
 use clock::Cycle;
 use file_stim::Cursor;
+use gates::TruthTables;
 use session_state::Session;
 
 // A listing on its way: the open session, the next line of STIM, T, and how many pieces were given.
@@ -73,8 +73,7 @@ impl Lister {
     // The next piece: time 0; or the settings of the next time, one cycle and its changes; or the last line.
     pub fn step(
         self,
-        functions: &[u8],
-        translations: &[u8],
+        tables: &TruthTables,
         stim: &[u8],
         panel: &mut [u8],
         program: &[u8],
@@ -84,7 +83,6 @@ impl Lister {
     ) -> Piece
         requires standing { Standing self stim.now panel.old program.now memory.old shown.old }
         requires out_len { length out.old ≡ piece_length }
-        requires gate_tables { GateTables functions.now translations.now }
         ensures { (files : Files) (k : ℕ) → Stands files k self stim.now panel.old program.now memory.old shown.old → Gives files k out.old result out.new stim.now panel.new program.now memory.new shown.new }
     {
         let session = self.session;
@@ -120,7 +118,7 @@ impl Lister {
         let settled = listing_cycle::take_settings(session, cursor, time, stim, panel);
         let ready = settled.session;
         let rest = settled.cursor;
-        let after = listing_cycle::run_one(functions, translations, ready, panel, program, memory);
+        let after = listing_cycle::run_one(tables, ready, panel, program, memory);
         let length = listing_cycle::write_changes(time, panel, memory, shown, out);
         Piece {
             lister: Lister {

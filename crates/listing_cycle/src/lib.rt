@@ -4,7 +4,6 @@
 
 ghost use Rattle.std.specs.Prelude.{◌≡◌, ℕ, ◌+◌, ◌≤◌, ◌<◌, length, get_or, set};
 ghost use Rattle.std.proofs.lemmas.List.Edits.{sets};
-ghost use Rattle.gates.specs.Table.{GateTables};
 ghost use Rattle.model.specs.Stimulus.{stim_time, stim_count, end_time};
 ghost use Rattle.buffers_memory.specs.Memory.{memory_of, with_memory, MemoryBytes};
 ghost use Rattle.buffers_tables.specs.Panel.{panel_length, signals_in, processors_in, slots_in, processor_in};
@@ -15,6 +14,7 @@ ghost use Rattle.listing_cycle.specs.Cycling.{Ready, OneMore};
 
 use clock::Cycle;
 use file_stim::{Cursor, Step};
+use gates::TruthTables;
 use session_state::Session;
 
 // A session that has its settings for a cycle, and the line of STIM after them.
@@ -138,18 +138,16 @@ pub fn take_settings(
 
 // One cycle with the values in hand: "run k cycles" with k = 1 and a mask that watches nothing.
 pub fn run_one(
-    functions: &[u8],
-    translations: &[u8],
+    tables: &TruthTables,
     session: Session,
     panel: &[u8],
     program: &[u8],
     memory: &mut [u8],
 ) -> Session
     requires ready { Ready session panel.now program.now memory.old }
-    requires gate_tables { GateTables functions.now translations.now }
     ensures one_more { OneMore session result }
     ensures memory_after { memory.new ≡ with_memory (processors_in panel.now) (slots_in panel.now) (cycle_in panel.now program.now (memory_of memory.old)) memory.old }
 {
-    let told = session.run(functions, translations, panel, program, memory, 1);
+    let told = session.run(tables, panel, program, memory, 1);
     told.session
 }

@@ -14,6 +14,7 @@ use buffers_memory::MEMORY_BYTES;
 use buffers_tables::{PANEL_BYTES, PROGRAM_BYTES};
 use clock::Cycle;
 use file_checks::FileAnswer;
+use gates::TruthTables;
 
 fn panel_buffer() -> [u8; PANEL_BYTES] {
     [0; PANEL_BYTES]
@@ -90,8 +91,7 @@ pub fn print_listing(
     requires failed_value { failed.old ≡ false }
     ensures handed { Handing (files_of net.now modfile.now stim.now) parts.new failed.new }
 {
-    let functions = gates::functions();
-    let translations = gates::translations();
+    let tables = TruthTables::new();
     let mut panel = panel_buffer();
     let mut program = program_buffer();
     let mut memory = memory_buffer();
@@ -111,8 +111,7 @@ pub fn print_listing(
     let count = listing::piece_count(end);
     for _ in 0..count {
         let next = lister.step(
-            &functions,
-            &translations,
+            &tables,
             stim,
             &mut panel,
             &program,

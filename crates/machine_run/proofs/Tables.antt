@@ -1,11 +1,11 @@
 -- The laws of `Cycles` for the machine that the working tables hold, in the words of the contracts.
-use Prim.Native.Nat.{ℕ, ◌+◌, ◌≤◌}
+use Prim.Native.Nat.{ℕ, ◌+◌, ◌<◌, ◌≤◌}
 use mathlib.Core.Path.{◌≡◌}
 use mathlib.Core.Bool.{Bool, true, false}
 use mathlib.Core.List.{List}
 use lib.ListN.{length}
 use Rattle.model.specs.Module.{Module}
-use Rattle.model.specs.Machine.{Memory, slots}
+use Rattle.model.specs.Machine.{Memory, slot, slots, alternate}
 use Rattle.model.specs.Session.{Watch, ticks, watched}
 use Rattle.model.proofs.Machine.{Small, slots_small, cycle_small}
 use Rattle.buffers_memory.specs.Memory.{memory_length, memory_of, within, with_memory, MemoryBytes}
@@ -15,6 +15,7 @@ use Rattle.buffers_tables.specs.Panel.{processors_in, slots_in, hand_in, process
 use Rattle.buffers_tables.specs.Tables.{Tables, network_in, module_in}
 use Rattle.buffers_tables.proofs.Codes.{gates_small, hands_small}
 use Rattle.machine_run.specs.Running.{cycle_in, value_in, run_in, Watching}
+use Rattle.machine_run.proofs.Cycles as law
 use Rattle.machine_run.proofs.Cycles.{QuietTo, cycles_none, cycles_more, stop_told, quiet_more, ran_stopped, ran_whole}
 
 module _ {panel program : List ℕ} (t : Tables panel program) (old : List ℕ) where
@@ -28,6 +29,22 @@ module _ {panel program : List ℕ} (t : Tables panel program) (old : List ℕ) 
 
   abbrev m : Module
   m = module_in panel program
+
+  pub slots_none : length old ≡ memory_length → old ≡ bytes (slots (network_in panel program) m (hand_in panel) 0 (memory_of old)) old
+  unfolding module_in
+  slots_none = law.slots_none (network_in panel program) (module_in panel program) t.laid t.processors_high t.slots_high (hand_in panel) old
+
+  pub slots_more : (i : ℕ) {l r : List ℕ} → i < slots_in panel → l ≡ bytes (slots (network_in panel program) m (hand_in panel) i (memory_of old)) old
+      → r ≡ bytes (slot (network_in panel program) m (hand_in panel) i (memory_of l)) l
+      → r ≡ bytes (slots (network_in panel program) m (hand_in panel) (i + 1) (memory_of old)) old
+  unfolding module_in
+  slots_more i = law.slots_more (network_in panel program) (module_in panel program) t.laid t.processors_high t.slots_high (hand_in panel) old _ _ i
+
+  pub cycle_done : {l r : List ℕ} {p c : ℕ} → p ≡ processors_in panel → c ≡ slots_in panel
+      → l ≡ bytes (slots (network_in panel program) m (hand_in panel) (slots_in panel) (memory_of old)) old
+      → r ≡ with_memory p c (alternate (memory_of l)) l → r ≡ bytes (cycle_in panel program (memory_of old)) old
+  unfolding module_in
+  cycle_done = law.cycle_done (network_in panel program) (module_in panel program) t.laid t.processors_high t.slots_high (hand_in panel) old _ _ _ _
 
   pub none_done : length old ≡ memory_length → old ≡ bytes (after 0) old
   unfolding module_in

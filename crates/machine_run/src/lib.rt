@@ -4,16 +4,16 @@
 
 ghost use Rattle.std.specs.Prelude.{◌≡◌, ◌<◌, ◌≤◌, length};
 ghost use Rattle.gates.specs.Value.{Code};
-ghost use Rattle.gates.specs.Table.{GateTables};
 ghost use Rattle.model.specs.Machine.{slots as slots_done};
 ghost use Rattle.model.specs.Session.{watched};
 ghost use Rattle.buffers_memory.specs.Memory.{memory_of, with_memory, MemoryBytes};
 ghost use Rattle.buffers_tables.specs.Panel.{panel_length, processors_in, slots_in, hand_in, processor_in, slot_in};
-ghost use Rattle.buffers_tables.specs.Tables.{network_in, module_in, Tables};
+ghost use Rattle.buffers_tables.specs.Tables.{network_in, module_in};
 ghost use Rattle.machine_run.specs.Running.{cycle_in, watch_of, run_in, Watching};
 
 use clock::{Cycle, Slot};
 use instruction::Operand;
+use machine_slot::Machine;
 
 // "the one watch": its signal, and the mask of the values that it watches.
 #[derive(Clone, Copy)]
@@ -30,62 +30,22 @@ pub struct Ran {
 }
 
 // The slots of a cycle, one after the other.
-fn run_slots(
-    functions: &[u8],
-    translations: &[u8],
-    panel: &[u8],
-    program: &[u8],
-    processors: usize,
-    slots: u16,
-    memory: &mut [u8],
-)
-    requires tables { Tables panel.now program.now }
+fn run_slots(machine: &Machine, memory: &mut [u8])
     requires memory_bytes { MemoryBytes memory.old }
-    requires processors_value { (processors ≡ processors_in panel.now) × (slots ≡ slots_in panel.now) }
-    requires gate_tables { GateTables functions.now translations.now }
-    ensures { memory.new ≡ with_memory (processors_in panel.now) (slots_in panel.now) (slots_done (network_in panel.now program.now) (module_in panel.now program.now) (hand_in panel.now) (slots_in panel.now) (memory_of memory.old)) memory.old }
+    ensures { memory.new ≡ with_memory (processors_in machine.now.panel.now) (slots_in machine.now.panel.now) (slots_done (network_in machine.now.panel.now machine.now.program.now) (module_in machine.now.panel.now machine.now.program.now) (hand_in machine.now.panel.now) (slots_in machine.now.panel.now) (memory_of memory.old)) memory.old }
 {
-    let mut i: u16 = 0;
-    while i < slots {
-        machine_slot::run_slot(
-            functions,
-            translations,
-            panel,
-            program,
-            processors,
-            Slot(i),
-            memory,
-        );
-        i += 1;
+    for i in 0..machine.slots {
+        machine.run_slot(Slot(i), memory);
     }
 }
 
 // One cycle: every slot, and then "Halves alternate".
-fn run_cycle(
-    functions: &[u8],
-    translations: &[u8],
-    panel: &[u8],
-    program: &[u8],
-    processors: usize,
-    slots: u16,
-    memory: &mut [u8],
-)
-    requires tables { Tables panel.now program.now }
+fn run_cycle(machine: &Machine, memory: &mut [u8])
     requires memory_bytes { MemoryBytes memory.old }
-    requires processors_value { (processors ≡ processors_in panel.now) × (slots ≡ slots_in panel.now) }
-    requires gate_tables { GateTables functions.now translations.now }
-    ensures { memory.new ≡ with_memory (processors_in panel.now) (slots_in panel.now) (cycle_in panel.now program.now (memory_of memory.old)) memory.old }
+    ensures { memory.new ≡ with_memory (processors_in machine.now.panel.now) (slots_in machine.now.panel.now) (cycle_in machine.now.panel.now machine.now.program.now (memory_of memory.old)) memory.old }
 {
-    run_slots(
-        functions,
-        translations,
-        panel,
-        program,
-        processors,
-        slots,
-        memory,
-    );
-    buffers_memory::alternate(memory, processors, slots as usize);
+    run_slots(machine, memory);
+    buffers_memory::alternate(memory, machine.processors, usize::from(machine.slots));
 }
 
 // The mask has the bit of a value: "bit v of weight 2^v for value v".
@@ -109,41 +69,16 @@ pub fn value_of(panel: &[u8], memory: &[u8], signal: u16) -> u8
 }
 
 // "A run stops after the first cycle whose end shows a watched value, else after k."
-pub fn run(
-    functions: &[u8],
-    translations: &[u8],
-    panel: &[u8],
-    program: &[u8],
-    memory: &mut [u8],
-    watch: Watch,
-    cycles: Cycle,
-) -> Ran
-    requires tables { Tables panel.now program.now }
-    requires watching { Watching panel.now (watch_of watch) }
+pub fn run(machine: &Machine, memory: &mut [u8], watch: Watch, cycles: Cycle) -> Ran
+    requires watching { Watching machine.now.panel.now (watch_of watch) }
     requires memory_bytes { MemoryBytes memory.old }
-    requires gate_tables { GateTables functions.now translations.now }
-    ensures { (result.done.0 ≡ (run_in panel.now program.now (watch_of watch) cycles.0 (memory_of memory.old)).count) × (result.stopped ≡ (run_in panel.now program.now (watch_of watch) cycles.0 (memory_of memory.old)).stopped) × (memory.new ≡ with_memory (processors_in panel.now) (slots_in panel.now) (run_in panel.now program.now (watch_of watch) cycles.0 (memory_of memory.old)).state memory.old) }
+    ensures { (result.done.0 ≡ (run_in machine.now.panel.now machine.now.program.now (watch_of watch) cycles.0 (memory_of memory.old)).count) × (result.stopped ≡ (run_in machine.now.panel.now machine.now.program.now (watch_of watch) cycles.0 (memory_of memory.old)).stopped) × (memory.new ≡ with_memory (processors_in machine.now.panel.now) (slots_in machine.now.panel.now) (run_in machine.now.panel.now machine.now.program.now (watch_of watch) cycles.0 (memory_of memory.old)).state memory.old) }
 {
-    let processors = buffers_tables::processors(panel);
-    let slots = buffers_tables::slots(panel);
-    let signal = watch.signal;
-    let mask = watch.mask;
-    let k = cycles.0;
-    let mut done: u16 = 0;
-    while done < k {
-        run_cycle(
-            functions,
-            translations,
-            panel,
-            program,
-            processors,
-            slots,
-            memory,
-        );
-        done += 1;
-        if shows(mask, value_of(panel, memory, signal)) {
+    for before in 0..cycles.0 {
+        run_cycle(machine, memory);
+        if shows(watch.mask, value_of(machine.panel, memory, watch.signal)) {
             return Ran {
-                done: Cycle(done),
+                done: Cycle(before + 1),
                 stopped: true,
             };
         }

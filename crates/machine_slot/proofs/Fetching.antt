@@ -47,27 +47,25 @@ module _ (panel program : List ℕ) (w : Memory) (p i : ℕ) where
   unfolding sent module_in
   sent_line = fetch_named w p _ _
 
--- a line of the module has a signal that the panel has
-pub line_signal : (panel program : List ℕ) → Tables panel program → (p i : ℕ) → p < processors_in panel → i < slots_in panel
-    → signal_at program p i ≤ 4096
-unfolding network_in module_in
-line_signal panel program tables p i l h =
-    let a : At (module_in panel program) p i = record { processor = l; slot = h } in
-    omega (arith, tables.laid.signals p i a, tables.signals_high)
+-- a line of the module has a signal that the panel has, codes that are supplied where it is not empty, and receives from a processor
+-- that the module has
+module _ {panel program : List ℕ} (tables : Tables panel program) {p i : ℕ} (low : p < processors_in panel) (small : i < slots_in panel) where
+  abbrev here : At (module_in panel program) p i
+  unfolding module_in
+  here = record { processor = low; slot = small }
 
--- and codes that are supplied, where it is not empty
-pub line_codes : (panel program : List ℕ) → Tables panel program → (p i : ℕ) → p < processors_in panel → i < slots_in panel
-    → (signal_at program p i ≡ 0 → ⊥) → Legal (codes_in panel (signal_at program p i))
-unfolding network_in module_in
-line_codes panel program tables p i l h some =
-    tables.codes _ (omega (arith, some)) (tables.laid.signals p i (record { processor = l; slot = h }))
+  pub line_signal : signal_at program p i ≤ 4096
+  unfolding network_in module_in
+  line_signal = omega (arith, tables.laid.signals p i here, tables.signals_high)
 
--- and receives from a processor that the module has
-pub sender_fits : (panel program : List ℕ) → Tables panel program → (p i : ℕ) → p < processors_in panel → i < slots_in panel
-    → (sender_at program p i ≡ no_sender → ⊥) → sender_at program p i < 16
-unfolding network_in module_in
-sender_fits panel program tables p i l h some = go (tables.laid.senders p i (record { processor = l; slot = h }))
-  where
-    go : (sender_at program p i < processors_in panel) ⊎ (sender_at program p i ≡ no_sender) → sender_at program p i < 16
-    go (inl low) = omega (arith, tables.processors_high)
-    go (inr e) = absurd (some e)
+  pub line_codes : (signal_at program p i ≡ 0 → ⊥) → Legal (codes_in panel (signal_at program p i))
+  unfolding network_in module_in
+  line_codes some = tables.codes _ (omega (arith, some)) (tables.laid.signals p i here)
+
+  pub sender_fits : (sender_at program p i ≡ no_sender → ⊥) → sender_at program p i < 16
+  unfolding network_in module_in
+  sender_fits some = go (tables.laid.senders p i here)
+    where
+      go : (sender_at program p i < processors_in panel) ⊎ (sender_at program p i ≡ no_sender) → sender_at program p i < 16
+      go (inl below) = omega (arith, tables.processors_high)
+      go (inr e) = absurd (some e)

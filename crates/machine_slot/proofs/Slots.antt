@@ -255,8 +255,8 @@ module _ (n : Network) (m : Module) (laid : Laid n m) (row : ℕ → ℕ) (i : �
       sender_low e (inr q) = absurd (false≢true (sym (ap not (eq-eqb (m.sender p i) no_sender q)) ∙ e))
   slot_agree p (suc (suc (suc (suc part)))) k a h t = absurd (omega arith)
 
-  slot_done : (r : List ℕ) → r ≡ written (passed m.processors i) W l → r ≡ with_memory m.processors m.slots (slot n m row i (memory_of l)) l
-  slot_done r e = e ∙ widened ∙ written_same (within m.processors m.slots) W (slot n m row i (memory_of l)) l slot_agree
+  pub slot_finished : (r : List ℕ) → r ≡ written (passed m.processors i) W l → r ≡ with_memory m.processors m.slots (slot n m row i (memory_of l)) l
+  slot_finished r e = e ∙ widened ∙ written_same (within m.processors m.slots) W (slot n m row i (memory_of l)) l slot_agree
     where
       inside : (p part k : ℕ) → Place p part k → (b : Bool) → passed m.processors i p k ≡ b
           → written_at (passed m.processors i) W l p part k ≡ written_at (within m.processors m.slots) W l p part k
@@ -267,13 +267,3 @@ module _ (n : Network) (m : Module) (laid : Laid n m) (row : ℕ → ℕ) (i : �
       widened =
           is_written (within m.processors m.slots) W l (written (passed m.processors i) W l) (written_length (passed m.processors i) W l)
           (λ p part k a. written_at_lem (passed m.processors i) W l a ∙ inside p part k a (passed m.processors i p k) refl)
-
--- the same by the number of processors that the code counts to
-pub slot_finished : (n : Network) (m : Module) → Laid n m → (row : ℕ → ℕ) (i : ℕ) → i < m.slots → (results sents l r : List ℕ) (count : ℕ)
-    → count ≡ m.processors
-    → FirstAre count (λ p. evaluated n m row (memory_of l) p i) results → FirstAre count (λ p. sent m (memory_of l) p i) sents
-    → r ≡ written (passed count i) (storing m i results sents (memory_of l)) l
-    → r ≡ with_memory m.processors m.slots (slot n m row i (memory_of l)) l
-slot_finished n m laid row i small results sents l r count e are sends is =
-    slot_done n m laid row i small results sents l (λ k h. are k (omega arith)) (λ k h. sends k (omega arith)) r
-    (is ∙ ap (λ (x : ℕ). written (passed x i) (storing m i results sents (memory_of l)) l) e)

@@ -4,112 +4,145 @@
 
 ghost use Rattle.std.specs.Prelude.{◌≡◌, ◌<◌, ◌≤◌, not, eqb, length, get_or};
 ghost use Rattle.gates.specs.Legal.{Legal};
-ghost use Rattle.gates.specs.Table.{GateTables};
 ghost use Rattle.model.specs.Module.{local_present, switch_present, no_sender};
 ghost use Rattle.model.specs.Machine.{sent as sent_by, slot as slot_done};
 ghost use Rattle.buffers_memory.specs.Memory.{memory_length, memory_of, place, with_memory, written, here, MemoryBytes};
 ghost use Rattle.buffers_tables.specs.Panel.{panel_length, processors_in, slots_in, codes_in, hand_in};
 ghost use Rattle.buffers_tables.specs.Program.{program_length, signal_at, instruction_in};
 ghost use Rattle.buffers_tables.specs.Tables.{network_in, module_in, Tables};
+ghost use Rattle.machine_slot.specs.Single.{tables_single};
 ghost use Rattle.machine_slot.specs.Storing.{gate_on, evaluated_on, evaluated, FirstAre, storing, stored_if, passed};
 
 use buffers_memory::{LOCAL_PRESENT, SWITCH_PRESENT};
 use clock::Slot;
+use gates::TruthTables;
 use instruction::Instruction;
 
-// The result of a line's gate: its operands are fetched, and the codes of its signal applied.
-fn gate_on(
-    functions: &[u8],
-    translations: &[u8],
-    panel: &[u8],
-    memory: &[u8],
-    processor: usize,
-    line: Instruction,
-) -> u8
-    requires panel_len { (length panel.now ≡ panel_length) × (processor < 16) × (line.signal ≤ 4096) }
-    requires memory_bytes { MemoryBytes memory.now }
-    requires legal { Legal (codes_in panel.now line.signal) }
-    requires gate_tables { GateTables functions.now translations.now }
-    ensures { result ≡ gate_on panel.now (memory_of memory.now) processor line }
-{
-    let signal = line.signal as usize;
-    let a1 = line.a1;
-    let a2 = line.a2;
-    let a3 = line.a3;
-    let a4 = line.a4;
-    let gate = buffers_tables::gate_in(panel, signal);
-    gate.value(
-        functions,
-        translations,
-        buffers_memory::fetch(memory, processor, a1),
-        buffers_memory::fetch(memory, processor, a2),
-        buffers_memory::fetch(memory, processor, a3),
-        buffers_memory::fetch(memory, processor, a4),
-    )
+// What a run lends to every slot, and no slot changes: the tables of the gates, the panel and the program, which are in range, and
+// the numbers of processors and slots that the panel has.
+#[derive(Drop)]
+pub struct Machine<'a> {
+    pub tables: &'a TruthTables,
+    pub panel: &'a [u8],
+    pub program: &'a [u8],
+    pub processors: usize,
+    pub slots: u16,
+    pub ghost in_range: { Tables panel.now program.now } by { tables_single panel.now program.now },
+    pub ghost processors_value: { processors ≡ processors_in panel.now },
+    pub ghost slots_value: { slots ≡ slots_in panel.now },
 }
 
-// "Its gate's result, or its input's value for cycle t", which is the value in hand. An empty slot is not evaluated. The line is
-// decoded behind the tests: what is decoded before them has to be kept over them.
-fn evaluate(
-    functions: &[u8],
-    translations: &[u8],
-    panel: &[u8],
-    program: &[u8],
-    memory: &[u8],
-    processor: usize,
-    slot: Slot,
-) -> u8
-    requires panel_len { (length panel.now ≡ panel_length) × (length program.now ≡ program_length) × (processor < 16) × (slot.0 < 256) }
-    requires slot_bound { signal_at program.now processor slot.0 ≤ 4096 }
-    requires memory_bytes { MemoryBytes memory.now }
-    requires legal { (signal_at program.now processor slot.0 ≡ 0 → ⊥) → Legal (codes_in panel.now (signal_at program.now processor slot.0)) }
-    requires gate_tables { GateTables functions.now translations.now }
-    ensures { result ≡ evaluated_on panel.now (memory_of memory.now) processor (instruction_in program.now processor slot.0) }
-{
-    let signal = buffers_tables::signal_in(program, processor, slot) as usize;
-    if signal == 0 {
-        return 0;
-    }
-    if buffers_tables::kind(panel, signal) == 1 {
-        return buffers_tables::hand(panel, signal);
-    }
-    gate_on(
-        functions,
-        translations,
-        panel,
-        memory,
-        processor,
-        buffers_tables::instruction_in(program, processor, slot),
-    )
+// What the processors fetch in a slot: the result of each, which it stores locally, and what it sends.
+#[derive(Drop)]
+struct Fetched {
+    results: [u8; 16],
+    sent: [u8; 16],
 }
 
-// "every processor fetches first": what each stores locally and what it sends. What it sends is fetched before its gate is evaluated,
-// and so is not kept meanwhile.
-fn fetch_all(
-    functions: &[u8],
-    translations: &[u8],
-    panel: &[u8],
-    program: &[u8],
-    memory: &[u8],
-    processors: usize,
-    slot: Slot,
-    results: &mut [u8],
-    sent: &mut [u8],
-)
-    requires tables { Tables panel.now program.now }
-    requires memory_bytes { MemoryBytes memory.now }
-    requires processors_value { (processors ≡ processors_in panel.now) × (slot.0 < slots_in panel.now) × (length results.old ≡ 16) × (length sent.old ≡ 16) }
-    requires gate_tables { GateTables functions.now translations.now }
-    ensures first_are { FirstAre processors (λ p. evaluated (network_in panel.now program.now) (module_in panel.now program.now) (hand_in panel.now) (memory_of memory.now) p slot.0) results.new }
-    ensures first_are_2 { FirstAre processors (λ p. sent_by (module_in panel.now program.now) (memory_of memory.now) p slot.0) sent.new }
-{
-    let mut p: usize = 0;
-    while p < processors {
-        let line = buffers_tables::instruction_in(program, p, slot);
-        let send = line.send;
-        sent[p] = buffers_memory::fetch(memory, p, send);
-        results[p] = evaluate(functions, translations, panel, program, memory, p, slot);
-        p += 1;
+impl<'a> Machine<'a> {
+    // The machine that the working tables hold.
+    pub fn new(tables: &'a TruthTables, panel: &'a [u8], program: &'a [u8]) -> Machine<'a>
+        requires { Tables panel.now program.now }
+        ensures { (result.panel.now ≡ panel.now) × (result.program.now ≡ program.now) }
+    {
+        Machine {
+            tables,
+            panel,
+            program,
+            processors: buffers_tables::processors(panel),
+            slots: buffers_tables::slots(panel),
+        }
+    }
+
+    // The result of a line's gate: its operands are fetched, and the codes of its signal applied.
+    fn gate_on(&self, memory: &[u8], processor: usize, line: Instruction) -> u8
+        requires line_bound { (processor < 16) × (line.signal ≤ 4096) }
+        requires memory_bytes { MemoryBytes memory.now }
+        requires legal { Legal (codes_in self.now.panel.now line.signal) }
+        ensures { result ≡ gate_on self.now.panel.now (memory_of memory.now) processor line }
+    {
+        let gate = buffers_tables::gate_in(self.panel, line.signal as usize);
+        gate.value(
+            self.tables,
+            buffers_memory::fetch(memory, processor, line.a1),
+            buffers_memory::fetch(memory, processor, line.a2),
+            buffers_memory::fetch(memory, processor, line.a3),
+            buffers_memory::fetch(memory, processor, line.a4),
+        )
+    }
+
+    // "Its gate's result, or its input's value for cycle t", which is the value in hand. An empty slot is not evaluated. The line is
+    // decoded behind the tests: what is decoded before them has to be kept over them.
+    fn evaluate(&self, memory: &[u8], processor: usize, slot: Slot) -> u8
+        requires place { (processor < processors_in self.now.panel.now) × (slot.0 < slots_in self.now.panel.now) }
+        requires memory_bytes { MemoryBytes memory.now }
+        ensures { result ≡ evaluated_on self.now.panel.now (memory_of memory.now) processor (instruction_in self.now.program.now processor slot.0) }
+    {
+        let signal = buffers_tables::signal_in(self.program, processor, slot) as usize;
+        if signal == 0 {
+            return 0;
+        }
+        if buffers_tables::kind(self.panel, signal) == 1 {
+            return buffers_tables::hand(self.panel, signal);
+        }
+        let line = buffers_tables::instruction_in(self.program, processor, slot);
+        self.gate_on(memory, processor, line)
+    }
+
+    // "every processor fetches first": what each stores locally and what it sends. What it sends is fetched before its gate is
+    // evaluated, and so is not kept meanwhile.
+    fn fetch_all(&self, memory: &[u8], slot: Slot) -> Fetched
+        requires memory_bytes { MemoryBytes memory.now }
+        requires slot_bound { slot.0 < slots_in self.now.panel.now }
+        ensures results_are { FirstAre (processors_in self.now.panel.now) (λ p. evaluated (network_in self.now.panel.now self.now.program.now) (module_in self.now.panel.now self.now.program.now) (hand_in self.now.panel.now) (memory_of memory.now) p slot.0) result.results }
+        ensures sent_are { FirstAre (processors_in self.now.panel.now) (λ p. sent_by (module_in self.now.panel.now self.now.program.now) (memory_of memory.now) p slot.0) result.sent }
+    {
+        let mut results = [0u8; 16];
+        let mut sent = [0u8; 16];
+        for p in 0..self.processors {
+            let line = buffers_tables::instruction_in(self.program, p, slot);
+            sent[p] = buffers_memory::fetch(memory, p, line.send);
+            results[p] = self.evaluate(memory, p, slot);
+        }
+        Fetched { results, sent }
+    }
+
+    // Both stores of a processor, by its line.
+    fn store(&self, processor: usize, slot: Slot, fetched: &Fetched, memory: &mut [u8])
+        requires memory_size { length memory.old ≡ memory_length }
+        requires place { (processor < processors_in self.now.panel.now) × (slot.0 < slots_in self.now.panel.now) }
+        ensures { memory.new ≡ written (here processor slot.0) (storing (module_in self.now.panel.now self.now.program.now) slot.0 fetched.now.results fetched.now.sent (memory_of memory.old)) memory.old }
+    {
+        let line = buffers_tables::instruction_in(self.program, processor, slot);
+        store_result(
+            line.signal,
+            processor,
+            slot,
+            fetched.results[processor],
+            memory,
+        );
+        store_received(line.sender, processor, slot, &fetched.sent, memory);
+    }
+
+    // "then stores": every processor.
+    fn store_all(&self, slot: Slot, fetched: &Fetched, memory: &mut [u8])
+        requires memory_size { length memory.old ≡ memory_length }
+        requires slot_bound { slot.0 < slots_in self.now.panel.now }
+        ensures { memory.new ≡ written (passed (processors_in self.now.panel.now) slot.0) (storing (module_in self.now.panel.now self.now.program.now) slot.0 fetched.now.results fetched.now.sent (memory_of memory.old)) memory.old }
+    {
+        for p in 0..self.processors {
+            self.store(p, slot, fetched, memory);
+        }
+    }
+
+    // "In slot i every processor fetches first, then stores."
+    pub fn run_slot(&self, slot: Slot, memory: &mut [u8])
+        requires memory_bytes { MemoryBytes memory.old }
+        requires slot_bound { slot.0 < slots_in self.now.panel.now }
+        ensures { memory.new ≡ with_memory (processors_in self.now.panel.now) (slots_in self.now.panel.now) (slot_done (network_in self.now.panel.now self.now.program.now) (module_in self.now.panel.now self.now.program.now) (hand_in self.now.panel.now) slot.0 (memory_of memory.old)) memory.old }
+    {
+        let fetched = self.fetch_all(memory, slot);
+        self.store_all(slot, &fetched, memory);
     }
 }
 
@@ -125,9 +158,9 @@ fn store_result(signal: u16, processor: usize, slot: Slot, value: u8, memory: &m
 }
 
 // "the received value goes to switch location i", in the present half; "a slot that receives none stores no switch value".
-fn store_received(sender: u8, processor: usize, slot: Slot, sent: &[u8], memory: &mut [u8])
+fn store_received(sender: u8, processor: usize, slot: Slot, sent: &[u8; 16], memory: &mut [u8])
     requires memory_len { (length memory.old ≡ memory_length) × (processor < 16) × (slot.0 < 256) }
-    requires sender_in_bounds { (sender ≡ no_sender → ⊥) → sender < length sent.now }
+    requires sender_in_bounds { (sender ≡ no_sender → ⊥) → sender < 16 }
     ensures { memory.new ≡ stored_if (not (eqb sender no_sender)) memory.old (place processor switch_present slot.0) (get_or sent.now sender 0) }
 {
     let i = slot.0;
@@ -140,78 +173,4 @@ fn store_received(sender: u8, processor: usize, slot: Slot, sent: &[u8], memory:
             sent[sender as usize],
         );
     }
-}
-
-// Both stores of a processor, by its line.
-fn store(
-    panel: &[u8],
-    program: &[u8],
-    processor: usize,
-    slot: Slot,
-    results: &[u8],
-    sent: &[u8],
-    memory: &mut [u8],
-)
-    requires tables { Tables panel.now program.now }
-    requires memory_len { (length memory.old ≡ memory_length) × (length results.now ≡ 16) × (length sent.now ≡ 16) }
-    requires processor_bound { (processor < processors_in panel.now) × (slot.0 < slots_in panel.now) }
-    ensures { memory.new ≡ written (here processor slot.0) (storing (module_in panel.now program.now) slot.0 results.now sent.now (memory_of memory.old)) memory.old }
-{
-    let line = buffers_tables::instruction_in(program, processor, slot);
-    store_result(line.signal, processor, slot, results[processor], memory);
-    store_received(line.sender, processor, slot, sent, memory);
-}
-
-// "then stores": every processor.
-fn store_all(
-    panel: &[u8],
-    program: &[u8],
-    processors: usize,
-    slot: Slot,
-    results: &[u8],
-    sent: &[u8],
-    memory: &mut [u8],
-)
-    requires tables { Tables panel.now program.now }
-    requires memory_len { (length memory.old ≡ memory_length) × (length results.now ≡ 16) × (length sent.now ≡ 16) }
-    requires processors_value { (processors ≡ processors_in panel.now) × (slot.0 < slots_in panel.now) }
-    ensures { memory.new ≡ written (passed processors slot.0) (storing (module_in panel.now program.now) slot.0 results.now sent.now (memory_of memory.old)) memory.old }
-{
-    let mut p: usize = 0;
-    while p < processors {
-        store(panel, program, p, slot, results, sent, memory);
-        p += 1;
-    }
-}
-
-// "In slot i every processor fetches first, then stores."
-pub fn run_slot(
-    functions: &[u8],
-    translations: &[u8],
-    panel: &[u8],
-    program: &[u8],
-    processors: usize,
-    slot: Slot,
-    memory: &mut [u8],
-)
-    requires tables { Tables panel.now program.now }
-    requires memory_bytes { MemoryBytes memory.old }
-    requires processors_value { (processors ≡ processors_in panel.now) × (slot.0 < slots_in panel.now) }
-    requires gate_tables { GateTables functions.now translations.now }
-    ensures { memory.new ≡ with_memory (processors_in panel.now) (slots_in panel.now) (slot_done (network_in panel.now program.now) (module_in panel.now program.now) (hand_in panel.now) slot.0 (memory_of memory.old)) memory.old }
-{
-    let mut results = [0u8; 16];
-    let mut sent = [0u8; 16];
-    fetch_all(
-        functions,
-        translations,
-        panel,
-        program,
-        memory,
-        processors,
-        slot,
-        &mut results,
-        &mut sent,
-    );
-    store_all(panel, program, processors, slot, &results, &sent, memory);
 }

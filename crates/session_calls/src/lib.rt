@@ -15,6 +15,7 @@ ghost use Rattle.session_state.specs.Commands.{commanded};
 ghost use Rattle.session_calls.specs.Reply.{buffers_of, reply};
 ghost use Rattle.session_calls.specs.Ready.{ready_of, Writes};
 
+use gates::TruthTables;
 use session_answers::CallAnswer;
 use session_state::Told;
 
@@ -92,10 +93,9 @@ fn run_in(panel: &mut [u8], program: &[u8], memory: &mut [u8], cycles: u32) -> u
     ensures writes { Writes (commanded panel.old program.now memory.old (head_in panel.old) (running cycles)) panel.old result panel.new }
     ensures memory_after { memory.new ≡ with_memory (processors_in panel.old) (slots_in panel.old) (commanded panel.old program.now memory.old (head_in panel.old) (running cycles)).state memory.old }
 {
-    let functions = gates::functions();
-    let translations = gates::translations();
+    let tables = TruthTables::new();
     tell(
-        session_state::decode(panel).run(&functions, &translations, panel, program, memory, cycles),
+        session_state::decode(panel).run(&tables, panel, program, memory, cycles),
         panel,
     )
 }

@@ -3,7 +3,6 @@
 #![tactic(auto)]
 
 ghost use Rattle.std.specs.Prelude.{◌≡◌, List, ℕ, ◌≤◌, ◌<◌, length};
-ghost use Rattle.gates.specs.Table.{GateTables};
 ghost use Rattle.model.specs.Session.{set as setting, watch as watching, read as reading, run as running};
 ghost use Rattle.buffers_memory.specs.Memory.{with_memory, MemoryBytes};
 ghost use Rattle.buffers_tables.specs.Panel.{panel_length, signals_in, processor_in, processors_in, slots_in};
@@ -14,7 +13,9 @@ ghost use Rattle.session_state.specs.Carried.{head_of};
 ghost use Rattle.session_state.specs.Commands.{signal_in, input_in, commanded, Tells};
 
 use clock::Cycle;
+use gates::TruthTables;
 use machine_run::Watch;
+use machine_slot::Machine;
 use session_answers::CallAnswer;
 
 // The session's header: the cycles finished and the watch. Its values in hand stand in the panel alone, where the machine reads them.
@@ -156,8 +157,7 @@ impl Session {
     // "run k cycles": "It answers the cycles done and whether it stopped".
     pub fn run(
         self,
-        functions: &[u8],
-        translations: &[u8],
+        tables: &TruthTables,
         panel: &[u8],
         program: &[u8],
         memory: &mut [u8],
@@ -166,7 +166,6 @@ impl Session {
         requires tables { Tables panel.now program.now }
         requires watching { Watching panel.now (watch_of self.watch) }
         requires memory_bytes { MemoryBytes memory.old }
-        requires gate_tables { GateTables functions.now translations.now }
         ensures tells { Tells (commanded panel.now program.now memory.old (head_of self panel.now) (running cycles)) result panel.now panel.now }
         ensures memory_after { memory.new ≡ with_memory (processors_in panel.now) (slots_in panel.now) (commanded panel.now program.now memory.old (head_of self panel.now) (running cycles)).state memory.old }
     {
@@ -179,15 +178,8 @@ impl Session {
                 answer: CallAnswer::TooManyCycles(finished),
             };
         }
-        let ran = machine_run::run(
-            functions,
-            translations,
-            panel,
-            program,
-            memory,
-            watch,
-            Cycle(cycles as u16),
-        );
+        let machine = Machine::new(tables, panel, program);
+        let ran = machine_run::run(&machine, memory, watch, Cycle(cycles as u16));
         let done = ran.done.0;
         let stopped = ran.stopped;
         Told {

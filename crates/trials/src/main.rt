@@ -6,7 +6,7 @@ ghost use Rattle.std.specs.Prelude.{◌≤◌, length};
 ghost use Rattle.gates.specs.Value.{Code};
 
 use fields::Field;
-use gates::Gate;
+use gates::{Gate, TruthTables};
 
 // Values, functions and translations by name.
 const U: u8 = 2;
@@ -40,8 +40,7 @@ fn print_line(rt: &impl Print, numbers: &[u16])
 fn gate_trial(rt: &impl Print, f: u8, g5: u8, a: u8, b: u8, c: u8, d: u8)
     requires { (f ≤ 4) × (g5 ≤ 6) × Code a × Code b × Code c × Code d }
 {
-    let functions = gates::functions();
-    let translations = gates::translations();
+    let tables = TruthTables::new();
     let gate = Gate {
         f,
         g1: SAME,
@@ -50,7 +49,7 @@ fn gate_trial(rt: &impl Print, f: u8, g5: u8, a: u8, b: u8, c: u8, d: u8)
         g4: SAME,
         g5,
     };
-    let value = gate.value(&functions, &translations, a, b, c, d);
+    let value = gate.value(&tables, a, b, c, d);
     print_line(
         rt,
         &[

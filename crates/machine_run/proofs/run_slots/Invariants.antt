@@ -1,5 +1,4 @@
 -- The invariant: the memory holds what the slots below i left.
-use Prim.Native.Nat.{◌≤◌, ◌-◌}
 use mathlib.Core.Path.{◌≡◌}
 use Rattle.model.specs.Machine.{slots as slots_done}
 use Rattle.buffers_memory.specs.Memory.{memory_of, with_memory, MemoryBytes}
@@ -9,8 +8,5 @@ use Rattle.machine_run.proofs.run_slots.Given as goal
 
 abbrev pub invariant-loop-i : goal.invariant-loop-i
 invariant-loop-i l =
-    (l.i ≤ l.slots) × MemoryBytes l.memory
-    × (l.memory ≡ with_memory (processors_in l.panel) (slots_in l.panel) (slots_done (network_in l.panel l.program) (module_in l.panel l.program) (hand_in l.panel) l.i (memory_of l.initial.memory)) l.initial.memory)
-
-abbrev pub decreases-loop-i : goal.decreases-loop-i
-decreases-loop-i l = l.slots - l.i
+    MemoryBytes l.memory
+    × (l.memory ≡ with_memory (processors_in l.machine.panel.now) (slots_in l.machine.panel.now) (slots_done (network_in l.machine.panel.now l.machine.program.now) (module_in l.machine.panel.now l.machine.program.now) (hand_in l.machine.panel.now) l.i (memory_of l.initial.memory)) l.initial.memory)

@@ -23,18 +23,23 @@ returns-then-count-cycles c =
       memory_after = memory_kept c.args.panel.now c.args.program.now c.args.memory.now h c.args.cycles c.requires.memory_bytes.size l;
     }
 
+pub run-ran-requires-clause-watching : goal.run-ran-requires-clause-watching
+run-ran-requires-clause-watching c = rw c.new-machine.ensures.0 c.requires.watching
+
 pub overflow_add-result : goal.overflow_add-result
 overflow_add-result c =
     let most = run_most c.args.panel.now c.args.program.now (watch_of c.args.self.watch) (memory_of c.args.memory.now) c.args.cycles in
-    omega (arith, c.run-ran.ensures.0, most, c.if-count-cycles.false)
+    let counted = rw (c.new-machine.ensures.0, c.new-machine.ensures.1) at c.run-ran.ensures.0 in
+    omega (arith, counted, most, c.if-count-cycles.false)
 
 pub returns : goal.returns
 returns c =
     let h = head_of c.args.self c.args.panel.now in
     let l : h.finished + c.args.cycles ≤ 65535 = omega (arith, c.if-count-cycles.false) in
+    let done = rw (c.new-machine.ensures.0, c.new-machine.ensures.1) at c.run-ran.ensures in
     let e = run_done c.args.panel.now c.args.program.now c.args.memory.now h.finished h.watch c.args.cycles l in
     record {
-      tells = tells _ _ _ _ _ e (ap (λ (x : ℕ). ran x c.run-ran.result.stopped) c.run-ran.ensures.0 ∙ ap (ran (run_in c.args.panel.now c.args.program.now h.watch c.args.cycles (memory_of c.args.memory.now)).count) c.run-ran.ensures.1)
-          (ap (λ (x : ℕ). h.finished + x) c.run-ran.ensures.0) refl (sym (hands_own c.args.panel.now c.requires.tables.panel_size));
-      memory_after = c.run-ran.ensures.2 ∙ ap (λ (o : Outcome Memory). with_memory (processors_in c.args.panel.now) (slots_in c.args.panel.now) o.state c.args.memory.now) (sym e);
+      tells = tells _ _ _ _ _ e (ap (λ (x : ℕ). ran x c.run-ran.result.stopped) done.0 ∙ ap (ran (run_in c.args.panel.now c.args.program.now h.watch c.args.cycles (memory_of c.args.memory.now)).count) done.1)
+          (ap (λ (x : ℕ). h.finished + x) done.0) refl (sym (hands_own c.args.panel.now c.requires.tables.panel_size));
+      memory_after = done.2 ∙ ap (λ (o : Outcome Memory). with_memory (processors_in c.args.panel.now) (slots_in c.args.panel.now) o.state c.args.memory.now) (sym e);
     }

@@ -1,6 +1,6 @@
 -- Codes and operands are those that `gate_on` names, as `gate_in` and the four calls of `fetch` promise, and legal.
 use Rattle.machine_slot.specs.Storing.{gate_on}
-use Rattle.machine_slot.proofs.gate_on.Goals as goal
+use Rattle.machine_slot.proofs.Machine.gate_on.Goals as goal
 
 pub returns : goal.returns
 unfolding gate_on

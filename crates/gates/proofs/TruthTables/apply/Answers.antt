@@ -2,9 +2,9 @@
 use mathlib.Core.Path.{sym, subst}
 use Rattle.gates.specs.Value.{Code}
 use Rattle.gates.proofs.Legal.{function_code}
-use Rattle.gates.proofs.apply.Goals as goal
+use Rattle.gates.proofs.TruthTables.apply.Goals as goal
 
 pub returns : goal.returns
 returns c =
-    let is = c.requires.function_table.rules _ _ _ _ _ c.requires.f_bound.0 c.requires.f_bound.1 c.requires.f_bound.2 c.requires.f_bound.3 c.requires.f_bound.4 in
+    let is = c.args.self.now.right.functions_right.rules _ _ _ _ _ c.requires.f_bound.0 c.requires.f_bound.1 c.requires.f_bound.2 c.requires.f_bound.3 c.requires.f_bound.4 in
     (is, subst Code (sym is) (function_code _ c.requires.f_bound.1 c.requires.f_bound.2 c.requires.f_bound.3 c.requires.f_bound.4))

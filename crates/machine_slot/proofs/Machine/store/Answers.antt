@@ -3,16 +3,17 @@ use Rattle.buffers_tables.specs.Tables.{module_in}
 use Rattle.machine_slot.proofs.Fetching.{sender_fits}
 use Rattle.machine_slot.proofs.Slots.{both_stored}
 use native.Mathlib.Omega.{arith}
-use Rattle.machine_slot.proofs.store.Goals as goal
+use Rattle.machine_slot.proofs.Machine.store.Goals as goal
 
 pub store_received-requires-clause-sender_in_bounds : goal.store_received-requires-clause-sender_in_bounds
 store_received-requires-clause-sender_in_bounds c =
-    rw (c.instruction_in-line.ensures, c.requires.memory_len.2)
-    (sender_fits _ _ c.requires.tables c.args.processor c.args.slot.0 c.requires.processor_bound.0 c.requires.processor_bound.1)
+    rw c.instruction_in-line.ensures
+    (sender_fits c.args.self.now.in_range c.requires.place.0 c.requires.place.1)
 
 pub returns : goal.returns
 unfolding module_in
 returns c =
-    both_stored (module_in c.args.panel.now c.args.program.now) c.args.slot.0 c.args.results.now c.args.sent.now c.args.memory.now c.requires.memory_len.0
-    c.args.processor (omega (arith, c.requires.tables.processors_high, c.requires.processor_bound.0)) (omega (arith, c.requires.tables.slots_high, c.requires.processor_bound.1)) _ _
+    let machine = c.args.self.now in
+    both_stored (module_in machine.panel.now machine.program.now) _ _ _ _ c.requires.memory_size _
+    (omega (arith, machine.in_range.processors_high, c.requires.place.0)) (omega (arith, machine.in_range.slots_high, c.requires.place.1)) _ _
     (rw c.instruction_in-line.ensures at c.store_result.ensures) (rw c.instruction_in-line.ensures at c.store_received.ensures)

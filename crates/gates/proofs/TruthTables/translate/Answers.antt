@@ -2,9 +2,9 @@
 use mathlib.Core.Path.{sym, subst}
 use Rattle.gates.specs.Value.{Code}
 use Rattle.gates.proofs.Legal.{translation_code}
-use Rattle.gates.proofs.translate.Goals as goal
+use Rattle.gates.proofs.TruthTables.translate.Goals as goal
 
 pub returns : goal.returns
 returns c =
-    let is = c.requires.translation_table.rules _ _ c.requires.g_bound.0 c.requires.g_bound.1 in
+    let is = c.args.self.now.right.translations_right.rules _ _ c.requires.g_bound.0 c.requires.g_bound.1 in
     (is, subst Code (sym is) (translation_code _ c.requires.g_bound.1))
