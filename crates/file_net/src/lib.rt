@@ -2,133 +2,127 @@
 
 #![tactic(auto)]
 
-ghost use Rattle.std.specs.Prelude.{◌≡◌, true, ◌≤◌};
-ghost use Rattle.fields.specs.Line.{is_line_at};
+ghost use Rattle.std.specs.Prelude.{◌≡◌, ◌≤◌};
 ghost use Rattle.model.specs.Netlist.{net_size, net_header, net_surplus, net_chains, net_check};
 ghost use Rattle.file_net_graph.specs.Lines.{Lines};
 ghost use Rattle.file_net.specs.Answer.{NetAnswers};
 ghost use Rattle.file_net.specs.Stages.{header_laid, net_lines};
 
-use fields::{Field, Line, ends_line, read_field, read_line};
+use fields::{ends_line, read_field, read_line};
+use file_lines::Refusal;
 use file_net_chains::first_chain;
-use file_net_line::{field, signal_layout, sources_right, ten_zeros};
+use file_net_line::NetLine;
 
-// What the check of NET answers: accepted with N, or the refusal with its line or signal.
-#[derive(Clone, Copy)]
-pub enum NetAnswer {
-    Accepted(u16),
+// Why NET is refused: a line misformed, missing or surplus, one against the layout, one with a wrong source, or a signal
+// on a closed chain.
+#[derive(Clone, Copy, Debug, PartialEq, Eq)]
+pub enum NetRefusal {
     Misformed(u16),
     Layout(u16),
     Sources(u16),
     Chain(u16),
 }
 
+impl Refusal for NetRefusal {
+    ghost use Rattle.file_net.specs.Answer.{net_refusal};
+
+    ghost refusal = { net_refusal };
+
+    fn told(self) -> (u8, u32) {
+        match self {
+            NetRefusal::Misformed(line) => (10, u32::from(line)),
+            NetRefusal::Layout(line) => (11, u32::from(line)),
+            NetRefusal::Sources(line) => (12, u32::from(line)),
+            NetRefusal::Chain(signal) => (13, u32::from(signal)),
+        }
+    }
+}
+
 // "0, N (1 to 4096), ten zeros", N being at most the limit.
-fn header_laid(net: &[u8], limit: u16) -> bool
-    requires { is_line_at net.now 0 12 ≡ true }
-    ensures { result ≡ header_laid limit net.now }
+fn is_header_laid(header: &NetLine, limit: u16) -> bool
+    requires { header.now.line ≡ 0 }
+    ensures { result ≡ header_laid limit header.now.net.now }
 {
-    if field(net, 0, 0) != 0 {
-        return false;
-    }
-    let size = field(net, 0, 1);
-    if size < 1 {
-        return false;
-    }
-    if limit < size {
-        return false;
-    }
-    ten_zeros(net, 0)
+    header.field(0) == 0 && (1..=limit).contains(&header.field(1)) && header.has_ten_zeros()
 }
 
 // Line 1: 10, then 11.
-fn check_header(net: &[u8], limit: u16) -> NetAnswer
+fn check_header(net: &[u8], limit: u16) -> Result<u16, NetRefusal>
     ensures { NetAnswers net.now (net_header limit net.now) result }
 {
-    let Line::Next(_) = read_line(net, 0, 12) else {
-        return NetAnswer::Misformed(1);
+    let Some(_) = read_line(net, 0, 12) else {
+        return Err(NetRefusal::Misformed(1));
     };
-    if !header_laid(net, limit) {
-        return NetAnswer::Layout(1);
+    let header = NetLine::new(net, 0);
+    if !is_header_laid(&header, limit) {
+        return Err(NetRefusal::Layout(1));
     }
-    NetAnswer::Accepted(field(net, 0, 1))
+    Ok(header.field(1))
 }
 
 // The lines of the signals 1 to N, in order: 10 before 11 before 12 in each, and left at the first fault with its line.
-fn check_lines(net: &[u8], size: u16) -> NetAnswer
+fn check_lines(net: &[u8], size: u16) -> Result<u16, NetRefusal>
     requires { (size ≡ net_size net.now) × (size ≤ 4096) }
     ensures { NetAnswers net.now (net_lines net.now) result }
 {
-    let mut answer = NetAnswer::Accepted(size);
-    let mut k: usize = 0;
-    'lines: while k < (size as usize) {
+    let mut answer = Ok(size);
+    'lines: for k in 0..usize::from(size) {
         let signal = k + 1;
-        let mut at = 73 * signal;
-        let mut column: usize = 0;
-        while column < 12 {
-            let Field::Number(_, next) = read_field(net, at) else {
-                answer = NetAnswer::Misformed((k + 2) as u16);
+        let at = 73 * signal;
+        for column in 0..12 {
+            let Some(_) = read_field(net, at + 6 * column) else {
+                answer = Err(NetRefusal::Misformed((k + 2) as u16));
                 break 'lines;
             };
-            at = next;
-            column += 1;
         }
-        if !ends_line(net, at) {
-            answer = NetAnswer::Misformed((k + 2) as u16);
+        if !ends_line(net, at + 72) {
+            answer = Err(NetRefusal::Misformed((k + 2) as u16));
             break 'lines;
         }
-        if !signal_layout(net, signal) {
-            answer = NetAnswer::Layout((k + 2) as u16);
+        let line = NetLine::new(net, signal);
+        if !line.is_signal_laid() {
+            answer = Err(NetRefusal::Layout((k + 2) as u16));
             break 'lines;
         }
-        if !sources_right(net, size, signal) {
-            answer = NetAnswer::Sources((k + 2) as u16);
+        if !line.are_sources_right(size) {
+            answer = Err(NetRefusal::Sources((k + 2) as u16));
             break 'lines;
         }
-        k += 1;
     }
     answer
 }
 
 // A line after the last: 10.
-fn check_surplus(net: &[u8], size: u16) -> NetAnswer
+fn check_surplus(net: &[u8], size: u16) -> Result<u16, NetRefusal>
     requires { (size ≡ net_size net.now) × (size ≤ 4096) }
     ensures { NetAnswers net.now (net_surplus net.now) result }
 {
-    if 73 * ((size as usize) + 1) < net.len() {
-        return NetAnswer::Misformed(size + 2);
+    if 73 * (usize::from(size) + 1) < net.len() {
+        return Err(NetRefusal::Misformed(size + 2));
     }
-    NetAnswer::Accepted(size)
+    Ok(size)
 }
 
 // 13: the smallest signal on a closed chain of rank-order gates.
-fn check_chains(net: &[u8], size: u16) -> NetAnswer
+fn check_chains(net: &[u8], size: u16) -> Result<u16, NetRefusal>
     requires { Lines net.now size }
     ensures { NetAnswers net.now (net_chains net.now) result }
 {
     let signal = first_chain(net, size);
     if signal != 0 {
-        return NetAnswer::Chain(signal);
+        return Err(NetRefusal::Chain(signal));
     }
-    NetAnswer::Accepted(size)
+    Ok(size)
 }
 
 // The check of NET, N being at most the limit.
-pub fn check_net(net: &[u8], limit: u16) -> NetAnswer
+pub fn check_net(net: &[u8], limit: u16) -> Result<u16, NetRefusal>
     requires { limit ≤ 4096 }
     ensures { NetAnswers net.now (net_check limit net.now) result }
 {
-    let header = check_header(net, limit);
-    let NetAnswer::Accepted(size) = header else {
-        return header;
-    };
-    let lines = check_lines(net, size);
-    let NetAnswer::Accepted(_) = lines else {
-        return lines;
-    };
-    let surplus = check_surplus(net, size);
-    let NetAnswer::Accepted(_) = surplus else {
-        return surplus;
-    };
-    check_chains(net, size)
+    let size = check_header(net, limit)?;
+    check_lines(net, size)?;
+    check_surplus(net, size)?;
+    check_chains(net, size)?;
+    Ok(size)
 }

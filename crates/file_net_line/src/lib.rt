@@ -4,8 +4,9 @@
 #![tactic(auto)]
 
 ghost use Rattle.std.specs.Prelude.{◌≡◌, true, ◌+◌, ◌*◌, ◌<◌, ◌≤◌};
-ghost use Rattle.logic.specs.Test.{all};
+ghost use Rattle.logic.specs.Test.{◌and◌, ◌or◌, all};
 ghost use Rattle.gates.specs.Translation.{is_translation};
+ghost use Rattle.gates.specs.Function.{is_function};
 ghost use Rattle.fields.specs.Line.{is_line_at};
 ghost use Rattle.model.specs.Netlist.{net_field, net_size, ten_zeros, input_layout, gate_layout, source_right, sources_right};
 ghost use Rattle.file_net_line.specs.Layout.{signal_layout};
@@ -13,110 +14,94 @@ ghost use Rattle.file_net_line.specs.Layout.{signal_layout};
 use fields::{number_at, zeros_at};
 use gates::{is_constant, is_function, is_translation};
 
+mod kind;
+
+pub use kind::{Kind, UnknownKind};
+
+// A line of NET that was found right.
+#[derive(Clone, Copy)]
+pub struct NetLine<'a> {
+    net: &'a [u8],
+    line: usize,
+    pub ghost within: { line ≤ 4096 },
+    pub ghost right: { is_line_at net.now (73 * line) 12 ≡ true },
+}
+
+impl<'a> NetLine<'a> {
+    pub fn new(net: &'a [u8], line: usize) -> NetLine<'a>
+        requires { (line ≤ 4096) × (is_line_at net.now (73 * line) 12 ≡ true) }
+        ensures { (result.net.now ≡ net.now) × (result.line ≡ line) }
+    {
+        NetLine { net, line }
+    }
+
+    pub fn field(&self, column: usize) -> u16
+        requires { column < 12 }
+        ensures { result ≡ net_field self.now.net.now self.now.line column }
+    {
+        number_at(self.net, 73 * self.line + 6 * column)
+    }
+
+    // "ten zeros": the columns 2 to 11.
+    pub fn has_ten_zeros(&self) -> bool
+        ensures { result ≡ ten_zeros self.now.net.now self.now.line }
+    {
+        zeros_at(self.net, 73 * self.line + 12, 10)
+    }
+
+    // The function and the five translations of a gate are supplied.
+    #[tactic(auto, using(logic::proofs::Judged::connected))]
+    fn are_codes_supplied(&self) -> bool
+        ensures { result ≡ is_function (net_field self.now.net.now self.now.line 2) and all 5 (λ k. is_translation (net_field self.now.net.now self.now.line (3 + k))) }
+    {
+        is_function(self.field(2)) && (0..5).all(|k| is_translation(self.field(3 + k)))
+    }
+
+    // 11: an input has ten zeros, and a gate codes that are supplied.
+    fn is_kind_laid(&self) -> bool
+        ensures { result ≡ input_layout self.now.net.now self.now.line or gate_layout self.now.net.now self.now.line }
+    {
+        let Ok(kind) = Kind::try_from(self.field(0)) else {
+            return false;
+        };
+        match kind {
+            Kind::Input => self.has_ten_zeros(),
+            Kind::UnitDelay | Kind::RankOrder => self.are_codes_supplied(),
+        }
+    }
+
+    // 11: the line of a signal has its number, and is an input's or a gate's.
+    #[tactic(auto, using(logic::proofs::Judged::connected))]
+    pub fn is_signal_laid(&self) -> bool
+        ensures { result ≡ signal_layout self.now.net.now self.now.line }
+    {
+        usize::from(self.field(1)) == self.line && self.is_kind_laid()
+    }
+
+    // 12: a source is a signal, or there is none and its translation is a constant.
+    #[tactic(auto, using(logic::proofs::Judged::connected), unfolding(model::specs::Netlist::source_right))]
+    fn is_source_right(&self, size: u16, j: usize) -> bool
+        requires { (j < 4) × (size ≡ net_size self.now.net.now) }
+        ensures { result ≡ source_right self.now.net.now self.now.line j }
+    {
+        let source = self.field(8 + j);
+        source <= size && (source != 0 || is_constant(self.field(3 + j)))
+    }
+
+    // 12: the four sources of a gate.
+    pub fn are_sources_right(&self, size: u16) -> bool
+        requires { size ≡ net_size self.now.net.now }
+        ensures { result ≡ sources_right self.now.net.now self.now.line }
+    {
+        Kind::try_from(self.field(0)) == Ok(Kind::Input)
+            || (0..4).all(|j| self.is_source_right(size, j))
+    }
+}
+
 // A field of a line that was found right.
 pub fn field(net: &[u8], line: usize, column: usize) -> u16
     requires { (line ≤ 4096) × (column < 12) × (is_line_at net.now (73 * line) 12 ≡ true) }
     ensures { result ≡ net_field net.now line column }
 {
-    number_at(net, 73 * line + 6 * column)
-}
-
-// "ten zeros": the columns 2 to 11.
-pub fn ten_zeros(net: &[u8], line: usize) -> bool
-    requires { (line ≤ 4096) × (is_line_at net.now (73 * line) 12 ≡ true) }
-    ensures { result ≡ ten_zeros net.now line }
-{
-    zeros_at(net, 73 * line + 12, 10)
-}
-
-// An input: kind 1, and ten zeros.
-fn input_layout(net: &[u8], line: usize) -> bool
-    requires { (line ≤ 4096) × (is_line_at net.now (73 * line) 12 ≡ true) }
-    ensures { result ≡ input_layout net.now line }
-{
-    if field(net, line, 0) != 1 {
-        return false;
-    }
-    ten_zeros(net, line)
-}
-
-// The five translations of a gate are supplied.
-fn translations_supplied(net: &[u8], line: usize) -> bool
-    requires { (line ≤ 4096) × (is_line_at net.now (73 * line) 12 ≡ true) }
-    ensures { result ≡ all 5 (λ k. is_translation (net_field net.now line (3 + k))) }
-{
-    let mut k: usize = 0;
-    while k < 5 {
-        if !is_translation(field(net, line, 3 + k)) {
-            return false;
-        }
-        k += 1;
-    }
-    true
-}
-
-// A gate: kind 2 or 3, with codes that are supplied.
-fn gate_layout(net: &[u8], line: usize) -> bool
-    requires { (line ≤ 4096) × (is_line_at net.now (73 * line) 12 ≡ true) }
-    ensures { result ≡ gate_layout net.now line }
-{
-    let kind = field(net, line, 0);
-    if kind < 2 {
-        return false;
-    }
-    if 3 < kind {
-        return false;
-    }
-    if !is_function(field(net, line, 2)) {
-        return false;
-    }
-    translations_supplied(net, line)
-}
-
-// 11: the line of a signal has its number, and is an input's or a gate's.
-pub fn signal_layout(net: &[u8], line: usize) -> bool
-    requires { (line ≤ 4096) × (is_line_at net.now (73 * line) 12 ≡ true) }
-    ensures { result ≡ signal_layout net.now line }
-{
-    let number = field(net, line, 1);
-    if (number as usize) != line {
-        return false;
-    }
-    if input_layout(net, line) {
-        return true;
-    }
-    gate_layout(net, line)
-}
-
-// 12: a source is a signal, or there is none and its translation is a constant.
-fn source_right(net: &[u8], size: u16, line: usize, j: usize) -> bool
-    requires { (line ≤ 4096) × (j < 4) × (is_line_at net.now (73 * line) 12 ≡ true) × (size ≡ net_size net.now) }
-    ensures { result ≡ source_right net.now line j }
-{
-    let source = field(net, line, 8 + j);
-    if size < source {
-        return false;
-    }
-    if source != 0 {
-        return true;
-    }
-    is_constant(field(net, line, 3 + j))
-}
-
-// 12: the four sources of a gate.
-pub fn sources_right(net: &[u8], size: u16, line: usize) -> bool
-    requires { (line ≤ 4096) × (is_line_at net.now (73 * line) 12 ≡ true) × (size ≡ net_size net.now) }
-    ensures { result ≡ sources_right net.now line }
-{
-    if field(net, line, 0) == 1 {
-        return true;
-    }
-    let mut j: usize = 0;
-    while j < 4 {
-        if !source_right(net, size, line, j) {
-            return false;
-        }
-        j += 1;
-    }
-    true
+    NetLine::new(net, line).field(column)
 }
