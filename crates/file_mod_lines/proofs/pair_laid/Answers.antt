@@ -1,7 +1,17 @@
--- `pair_right` gets the two numbers read; the first field lies within the file, so `at + 6` does not overflow.
-use native.Mathlib.Omega.{arith}
-use Rattle.fields.proofs.LowHalf.{field_length}
+-- By cases of the code: part 9 (`pair_none`), another part (`pair_part`), the location is not below C (`pair_far`).
+use mathlib.Core.Path.{sym, ◌∙◌}
+use Rattle.file_mod_lines.proofs.Judged.{pair_far, pair_none, pair_part}
+use borrow.Author.Tests.{le-ltb}
 use Rattle.file_mod_lines.proofs.pair_laid.Goals as goal
 
-pub overflow_add-at : goal.overflow_add-at
-overflow_add-at c = omega (arith, field_length c.args.modfile.now c.args.at c.requires.0)
+pub returns-then-part-eq9 : goal.returns-then-part-eq9
+returns-then-part-eq9 c =
+    rw (← c.number_in-part.ensures, ← c.number_in-location.ensures) (sym (pair_none _ c.args.most _ _ c.if-location-slots.true c.if-part-eq9.true))
+
+pub returns-else-part-eq9 : goal.returns-else-part-eq9
+returns-else-part-eq9 c =
+    rw (← c.number_in-part.ensures, ← c.number_in-location.ensures) (sym (pair_part _ c.args.most _ _ c.if-location-slots.true c.if-part-eq9.false))
+
+pub returns-else-location-slots : goal.returns-else-location-slots
+returns-else-location-slots c =
+    rw (← c.number_in-part.ensures, ← c.number_in-location.ensures) (le-ltb _ _ c.if-location-slots.false ∙ sym (pair_far _ c.args.most c.number_in-part.result _ c.if-location-slots.false))
