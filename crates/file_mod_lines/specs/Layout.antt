@@ -4,7 +4,6 @@ use Rattle.std.specs.Prelude.{ℕ, ◌+◌, ◌*◌, Bool, not, List, eqb, leb, 
 use Rattle.logic.specs.Test.{◌and◌, ◌or◌, all}
 use Rattle.fields.specs.Field.{number_at}
 use Rattle.model.specs.Module.{local_present, switch_present, no_part}
-use Rattle.model.specs.ModuleFile.{mod_field, mod_processors, mod_slots}
 use Rattle.instruction.specs.Sender.{sender_laid}
 
 -- the number in a column of the line at an offset
@@ -12,11 +11,11 @@ abbrev pub number_in : List ℕ → ℕ → ℕ → ℕ
 number_in modfile at column = number_at modfile (at + 6 * column)
 
 -- "P (1 to 16), C (1 to 256), twelve zeros"
-abbrev pub header_laid : List ℕ → Bool
-header_laid modfile =
-    (leb 1 (mod_processors modfile) and leb (mod_processors modfile) 16)
-    and (leb 1 (mod_slots modfile) and leb (mod_slots modfile) 256)
-    and all 12 (λ k. eqb (mod_field modfile 0 (2 + k)) 0)
+abbrev pub header_at : List ℕ → ℕ → Bool
+header_at modfile at =
+    (leb 1 (number_in modfile at 0) and leb (number_in modfile at 0) 16)
+    and (leb 1 (number_in modfile at 1) and leb (number_in modfile at 1) 256)
+    and all 12 (λ k. eqb (number_in modfile at (2 + k)) 0)
 
 -- a pair, its part being most at most
 unfoldable pub pair_laid : ℕ → ℕ → ℕ → ℕ → Bool

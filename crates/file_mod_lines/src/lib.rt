@@ -9,7 +9,7 @@ ghost use Rattle.model.specs.ModuleFile.{mod_header, mod_slot, each_line, mod_su
 ghost use Rattle.file_lines.specs.Answer.{Answers};
 ghost use Rattle.file_mod_lines.specs.Answer.{mod_refusal, ModAnswers, Sized};
 ghost use Rattle.file_mod_lines.specs.Form.{form_check};
-ghost use Rattle.file_mod_lines.specs.Layout.{number_in, header_laid, pair_at, operands_at, line_at};
+ghost use Rattle.file_mod_lines.specs.Layout.{number_in, header_at, pair_at, operands_at, line_at};
 
 use clock::Slot;
 use file_lines::Refusal;
@@ -56,76 +56,6 @@ pub struct Place {
     pub slot: Slot,
 }
 
-// The number in a column of the line at an offset.
-pub fn number_in(modfile: &[u8], at: usize, column: usize) -> u16
-    requires { (is_line_at modfile.now at 14 ≡ true) × (column < 14) }
-    ensures { result ≡ number_in modfile.now at column }
-{
-    fields::number_at(modfile, at + 6 * column)
-}
-
-// "P (1 to 16), C (1 to 256), twelve zeros".
-fn header_laid(modfile: &[u8]) -> bool
-    requires { is_line_at modfile.now 0 14 ≡ true }
-    ensures { result ≡ header_laid modfile.now }
-{
-    (1..=16).contains(&number_in(modfile, 0, 0))
-        && (1..=256).contains(&number_in(modfile, 0, 1))
-        && fields::zeros_at(modfile, 12, 12)
-}
-
-// Line 1: 20, then 21.
-fn check_header(modfile: &[u8]) -> Result<Shape, ModRefusal>
-    ensures { ModAnswers modfile.now (mod_header modfile.now) result }
-{
-    let Some(_) = fields::read_line(modfile, 0, 14) else {
-        return Err(ModRefusal::Misformed(1));
-    };
-    if !header_laid(modfile) {
-        return Err(ModRefusal::Layout(1));
-    }
-    Ok(Shape {
-        processors: number_in(modfile, 0, 0),
-        slots: number_in(modfile, 0, 1),
-    })
-}
-
-// The pair in two columns of the line at an offset: a part up to `most` and a location below C, or "Part 9 with location 0".
-fn pair_laid(modfile: &[u8], at: usize, column: usize, most: u16, slots: u16) -> bool
-    requires { (is_line_at modfile.now at 14 ≡ true) × (column < 13) }
-    ensures { result ≡ pair_at modfile.now at column most slots }
-{
-    let part = number_in(modfile, at, column);
-    let location = number_in(modfile, at, column + 1);
-    location < slots
-        && if part == 9 {
-            location == 0
-        } else {
-            part <= most
-        }
-}
-
-// The four operands of the line at an offset: "part 0 to 3 or 9".
-fn operands_laid(modfile: &[u8], at: usize, slots: u16) -> bool
-    requires { is_line_at modfile.now at 14 ≡ true }
-    ensures { result ≡ operands_at modfile.now at slots }
-{
-    (0..4).all(|j| pair_laid(modfile, at, 3 + 2 * j, 3, slots))
-}
-
-// The line at an offset has the layout of its place, N, P and C being given.
-fn line_laid(modfile: &[u8], at: usize, place: Place, signals: u16, shape: Shape) -> bool
-    requires { is_line_at modfile.now at 14 ≡ true }
-    ensures { result ≡ line_at modfile.now at place.processor place.slot.0 signals shape.processors shape.slots }
-{
-    number_in(modfile, at, 0) == place.processor
-        && number_in(modfile, at, 1) == place.slot.0
-        && number_in(modfile, at, 2) <= signals
-        && operands_laid(modfile, at, shape.slots)
-        && pair_laid(modfile, at, 11, 1, shape.slots)
-        && instruction::sender_right(number_in(modfile, at, 13), shape.processors)
-}
-
 impl Shape {
     // P × C.
     pub fn lines(self) -> usize
@@ -159,6 +89,84 @@ impl Place {
     }
 }
 
+// A line that is right by itself: at an offset of MOD.
+#[derive(Clone, Copy)]
+pub struct Line<'a> {
+    pub modfile: &'a [u8],
+    pub at: usize,
+    pub ghost right: { is_line_at modfile.now at 14 ≡ true },
+}
+
+impl<'a> Line<'a> {
+    // The number in a column.
+    pub fn number(&self, column: usize) -> u16
+        requires { column < 14 }
+        ensures { result ≡ number_in self.now.modfile.now self.now.at column }
+    {
+        fields::number_at(self.modfile, self.at + 6 * column)
+    }
+
+    // A pair from a column on: a part up to `most` and a location below C, or "Part 9 with location 0".
+    fn pair_laid(&self, column: usize, most: u16, slots: u16) -> bool
+        requires { column < 13 }
+        ensures { result ≡ pair_at self.now.modfile.now self.now.at column most slots }
+    {
+        let part = self.number(column);
+        let location = self.number(column + 1);
+        location < slots
+            && if part == 9 {
+                location == 0
+            } else {
+                part <= most
+            }
+    }
+
+    // The four operands: "part 0 to 3 or 9".
+    fn operands_laid(&self, slots: u16) -> bool
+        ensures { result ≡ operands_at self.now.modfile.now self.now.at slots }
+    {
+        (0..4).all(|j| self.pair_laid(3 + 2 * j, 3, slots))
+    }
+
+    // The layout is that of a place, N, P and C being given.
+    fn is_laid(&self, place: Place, signals: u16, shape: Shape) -> bool
+        ensures { result ≡ line_at self.now.modfile.now self.now.at place.processor place.slot.0 signals shape.processors shape.slots }
+    {
+        self.number(0) == place.processor
+            && self.number(1) == place.slot.0
+            && self.number(2) <= signals
+            && self.operands_laid(shape.slots)
+            && self.pair_laid(11, 1, shape.slots)
+            && instruction::sender_right(self.number(13), shape.processors)
+    }
+
+    // The layout is that of line 1: "P (1 to 16), C (1 to 256), twelve zeros".
+    fn is_header(&self) -> bool
+        ensures { result ≡ header_at self.now.modfile.now self.now.at }
+    {
+        (1..=16).contains(&self.number(0))
+            && (1..=256).contains(&self.number(1))
+            && (0..12).all(|k| self.number(2 + k) == 0)
+    }
+}
+
+// Line 1: 20, then 21.
+fn check_header(modfile: &[u8]) -> Result<Shape, ModRefusal>
+    ensures { ModAnswers modfile.now (mod_header modfile.now) result }
+{
+    let Some(_) = fields::read_line(modfile, 0, 14) else {
+        return Err(ModRefusal::Misformed(1));
+    };
+    let line = Line { modfile, at: 0 };
+    if !line.is_header() {
+        return Err(ModRefusal::Layout(1));
+    }
+    Ok(Shape {
+        processors: line.number(0),
+        slots: line.number(1),
+    })
+}
+
 // The lines after the first, in their order: 20, then 21, and left at the first fault with its line.
 fn check_lines(modfile: &[u8], signals: u16, shape: Shape) -> Result<(), ModRefusal>
     requires { Sized modfile.now shape.processors shape.slots }
@@ -166,18 +174,19 @@ fn check_lines(modfile: &[u8], signals: u16, shape: Shape) -> Result<(), ModRefu
 {
     let mut answer = Ok(());
     'lines: for k in 0..shape.lines() {
-        let line = 85 * (k + 1);
+        let at = 85 * (k + 1);
         for column in 0..14 {
-            let Some(_) = fields::read_field(modfile, line + 6 * column) else {
+            let Some(_) = fields::read_field(modfile, at + 6 * column) else {
                 answer = Err(ModRefusal::Misformed((k + 2) as u16));
                 break 'lines;
             };
         }
-        if !fields::ends_line(modfile, line + 84) {
+        if !fields::ends_line(modfile, at + 84) {
             answer = Err(ModRefusal::Misformed((k + 2) as u16));
             break 'lines;
         }
-        if !line_laid(modfile, line, shape.place_of(k), signals, shape) {
+        let line = Line { modfile, at };
+        if !line.is_laid(shape.place_of(k), signals, shape) {
             answer = Err(ModRefusal::Layout((k + 2) as u16));
             break 'lines;
         }

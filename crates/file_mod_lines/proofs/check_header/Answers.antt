@@ -1,7 +1,6 @@
 -- 20 where line 1 is broken, 21 where its layout is wrong, else P and C are accepted.
 use mathlib.Core.Path.{◌≡◌, refl, sym, ◌∙◌, ap}
 use mathlib.Core.Bool.{true, not}
-use native.Mathlib.Omega.{arith}
 use borrow.Author.Tests.{not-true, not-false}
 use Rattle.std.specs.Prelude.{Ok}
 use Rattle.fields.specs.Line.{is_line_at}
@@ -22,22 +21,16 @@ pub returns-in_default : goal.returns-in_default
 unfolding mod_header
 returns-in_default c = refused refl (test_stops _ 20 1 _ (line_wrong _ 0 14 (sym c.read_line.ensures ∙ c.in_default.is)))
 
-pub header_laid-requires : goal.header_laid-requires
-header_laid-requires c = form (goal.at.header_laid-requires c).In-Some
+pub invariant_of-line : goal.invariant_of-line
+invariant_of-line c = record { right = form (goal.at.invariant_of-line c).In-Some }
 
-pub returns-then-not-header_laid : goal.returns-then-not-header_laid
+pub returns-then-not-is_header : goal.returns-then-not-is_header
 unfolding mod_header
-returns-then-not-header_laid c =
-    refused refl (test_goes_on _ 20 1 _ (form (goal.at.returns-then-not-header_laid c).In-Some) ∙ test_fails _ 21 1 (sym c.header_laid.ensures ∙ not-true _ (ap not c.if-not-header_laid.true)))
-
-pub number_in-requires : goal.number_in-requires
-number_in-requires c = (form (goal.at.number_in-requires c).In-Some, omega arith)
-
-pub number_in-requires-2 : goal.number_in-requires-2
-number_in-requires-2 c = (form (goal.at.number_in-requires-2 c).In-Some, omega arith)
+returns-then-not-is_header c =
+    refused refl (test_goes_on _ 20 1 _ (form (goal.at.returns-then-not-is_header c).In-Some) ∙ test_fails _ 21 1 (sym c.is_header.ensures ∙ not-true _ (ap not c.if-not-is_header.true)))
 
 pub returns : goal.returns
 unfolding mod_header
 returns c =
-    accepted (ap Ok (same_shape c.number_in.ensures c.number_in-2.ensures))
-    (test_goes_on _ 20 1 _ (form (goal.at.returns c).In-Some) ∙ unless_pass _ 21 1 (sym c.header_laid.ensures ∙ not-false _ (ap not c.if-not-header_laid.false)))
+    accepted (ap Ok (same_shape c.number.ensures c.number-2.ensures))
+    (test_goes_on _ 20 1 _ (form (goal.at.returns c).In-Some) ∙ unless_pass _ 21 1 (sym c.is_header.ensures ∙ not-false _ (ap not c.if-not-is_header.false)))

@@ -13,7 +13,7 @@ use Rattle.file_lines.proofs.Lines.{lines_go_on, lines_stop, lines_end}
 use Rattle.file_mod_lines.specs.Layout.{line_at}
 use Rattle.file_mod_lines.proofs.Lines.{line_total, misformed, layout_wrong, slot_passes}
 use Rattle.file_mod_lines.proofs.check_lines.Goals as goal
-use Rattle.file_mod_lines.proofs.check_lines.Goals.{After-ends_line, After-line_laid, At-lines, Else-not-ends_line}
+use Rattle.file_mod_lines.proofs.check_lines.Goals.{After-ends_line, After-is_laid, At-lines, Else-not-ends_line}
 
 -- behind the last field stands the line's end
 all_read : (c : After-ends_line) → let start = 85 * (c.lines.k + 1) in
@@ -32,9 +32,9 @@ total : (c : At-lines) → c.lines-k-end.result ≡ mod_processors c.args.modfil
 total c = c.lines-k-end.ensures.0 ∙ line_total _ _ _ c.requires
 
 -- what its layout was judged to be
-laid : (c : After-line_laid) → (n : Network) → n.size ≡ c.args.signals
-    → c.line_laid.result ≡ line_at c.args.modfile.now (85 * (c.lines.k + 1)) (c.lines.k / c.args.shape.slots) (c.lines.k % c.args.shape.slots) n.size c.args.shape.processors c.args.shape.slots
-laid c n e = rw (e, ← c.place_of.ensures.0, ← c.place_of.ensures.1) c.line_laid.ensures
+laid : (c : After-is_laid) → (n : Network) → n.size ≡ c.args.signals
+    → c.is_laid.result ≡ line_at c.args.modfile.now (85 * (c.lines.k + 1)) (c.lines.k / c.args.shape.slots) (c.lines.k % c.args.shape.slots) n.size c.args.shape.processors c.args.shape.slots
+laid c n e = rw (e, ← c.place_of.ensures.0, ← c.place_of.ensures.1) c.is_laid.ensures
 
 pub lines-init : goal.lines-init
 unfolding first_below
@@ -48,14 +48,14 @@ loop-column-preserved c =
     let more = fields_go_on c.loop-column.invariant.1 c.loop-column-test.true (sym c.read_field.ensures ∙ c.in-Some.is) in
     (c.loop-column.invariant.0, record { few = more.few; here = omega arith; right = more.right })
 
-pub line_laid-requires : goal.line_laid-requires
-line_laid-requires c = form (goal.at.line_laid-requires c).Else-not-ends_line (all_read (goal.at.line_laid-requires c).After-ends_line)
+pub invariant_of-line : goal.invariant_of-line
+invariant_of-line c = record { right = form (goal.at.invariant_of-line c).Else-not-ends_line (all_read (goal.at.invariant_of-line c).After-ends_line) }
 
 pub lines-preserved : goal.lines-preserved
 lines-preserved c =
-    let right = not-false _ (ap not c.if-not-line_laid.false) in (
+    let right = not-false _ (ap not c.if-not-is_laid.false) in (
       c.loop-column.invariant.0,
-      λ n e. lines_go_on _ _ (c.lines.invariant.1 n e) (slot_passes _ _ n (form (goal.at.lines-preserved c).Else-not-ends_line (all_read (goal.at.lines-preserved c).After-ends_line)) _ _ c.requires _ (laid (goal.at.lines-preserved c).After-line_laid n e) right),
+      λ n e. lines_go_on _ _ (c.lines.invariant.1 n e) (slot_passes _ _ n (form (goal.at.lines-preserved c).Else-not-ends_line (all_read (goal.at.lines-preserved c).After-ends_line)) _ _ c.requires _ (laid (goal.at.lines-preserved c).After-is_laid n e) right),
     )
 
 pub returns-after-lines : goal.returns-after-lines
@@ -78,8 +78,8 @@ returns-then-not-ends_line c n e =
     lines_stop _ _ (c.lines.invariant.1 n e) _ (omega (arith, total (goal.at.returns-then-not-ends_line c).At-lines)) refl (misformed _ _ n wrong)
 
 -- a wrong layout
-pub returns-then-not-line_laid : goal.returns-then-not-line_laid
+pub returns-then-not-is_laid : goal.returns-then-not-is_laid
 unfolding each_line
-returns-then-not-line_laid c n e =
-    lines_stop _ _ (c.lines.invariant.1 n e) _ (omega (arith, total (goal.at.returns-then-not-line_laid c).At-lines)) refl
-    (layout_wrong _ _ n (form (goal.at.returns-then-not-line_laid c).Else-not-ends_line (all_read (goal.at.returns-then-not-line_laid c).After-ends_line)) _ _ c.requires _ (laid (goal.at.returns-then-not-line_laid c).After-line_laid n e) (not-true _ (ap not c.if-not-line_laid.true)))
+returns-then-not-is_laid c n e =
+    lines_stop _ _ (c.lines.invariant.1 n e) _ (omega (arith, total (goal.at.returns-then-not-is_laid c).At-lines)) refl
+    (layout_wrong _ _ n (form (goal.at.returns-then-not-is_laid c).Else-not-ends_line (all_read (goal.at.returns-then-not-is_laid c).After-ends_line)) _ _ c.requires _ (laid (goal.at.returns-then-not-is_laid c).After-is_laid n e) (not-true _ (ap not c.if-not-is_laid.true)))

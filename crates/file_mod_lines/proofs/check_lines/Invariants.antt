@@ -7,7 +7,7 @@ use Rattle.file_mod_lines.proofs.Lines.{LinesPass}
 use Rattle.file_mod_lines.proofs.check_lines.Given as goal
 
 abbrev pub invariant-loop-column : goal.invariant-loop-column
-invariant-loop-column l = (l.answer ≡ Ok tt) × FieldsRight l.modfile l.line 14 l.column (l.line + 6 * l.column)
+invariant-loop-column l = (l.answer ≡ Ok tt) × FieldsRight l.modfile l.at 14 l.column (l.at + 6 * l.column)
 
 abbrev pub invariant-lines : goal.invariant-lines
 invariant-lines l = (l.answer ≡ Ok tt) × LinesPass l.signals l.modfile l.k
