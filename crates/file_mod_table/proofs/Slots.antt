@@ -9,11 +9,9 @@ use borrow.Author.Tests.{eq-eqb, ne_eqb}
 use native.Mathlib.Decide.{ℕ_discrete}
 use Rattle.fields.specs.Field.{number_at}
 use Rattle.fields.specs.Line.{is_line_at}
-use Rattle.model.specs.Module.{Module, no_sender}
+use Rattle.model.specs.Module.{no_sender}
 use Rattle.model.specs.ModuleFile.{mod_line, mod_field, mod_processors, mod_index, module_of, mod_slot}
 use Rattle.model.proofs.Accepted.{SlotRight, slot_right, at_pass}
-use Rattle.instruction.specs.Instruction.{operand_named, send_named, instruction_of}
-use Rattle.instruction.specs.declared.Operand.{Operand}
 use Rattle.std.specs.Prelude.{Some, None}
 use Rattle.file_mod_table.specs.Sender.{sender_numbered}
 use Rattle.file_mod_lines.specs.declared.Shape.{Shape}
@@ -97,10 +95,3 @@ module _ (x sender : ℕ) (is : x ≡ sender) where
 
   pub sender_some : (x ≡ 99 → ⊥) → Some x ≡ sender_numbered sender
   sender_some d = rw is (sym (rw (ne_eqb sender no_sender (λ (e : sender ≡ 99). d (is ∙ e))) refl))
-
--- an instruction whose parts are those of a line
-pub instruction_made : (m : Module) (p i signal sender : ℕ) (a1 a2 a3 a4 send : Operand) → signal ≡ m.signal p i
-    → a1 ≡ operand_named m p i 0 → a2 ≡ operand_named m p i 1 → a3 ≡ operand_named m p i 2 → a4 ≡ operand_named m p i 3
-    → send ≡ send_named m p i → sender ≡ m.sender p i
-    → record { signal = signal; a1 = a1; a2 = a2; a3 = a3; a4 = a4; send = send; sender = sender } ≡ instruction_of m p i
-instruction_made m p i signal sender a1 a2 a3 a4 send e e1 e2 e3 e4 f g = rw (e, e1, e2, e3, e4, f, g)

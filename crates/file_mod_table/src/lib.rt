@@ -4,13 +4,12 @@
 
 ghost use Rattle.std.specs.Prelude.{◌≡◌, ◌+◌, ◌*◌, ◌<◌, ◌≤◌, IfSome};
 ghost use Rattle.model.specs.ModuleFile.{mod_index, mod_field, module_of};
-ghost use Rattle.instruction.specs.Instruction.{instruction_of};
+ghost use Rattle.instruction.specs.Instruction.{operand_named};
 ghost use Rattle.file_mod_table.specs.Line.{LinesLaid, Within};
-ghost use Rattle.file_mod_table.specs.Mirror.{pair_of};
 ghost use Rattle.file_mod_table.specs.Sender.{sender_of};
 
 use file_mod_lines::{Line, Place, Shape};
-use instruction::{Instruction, Operand};
+use instruction::Operand;
 
 // MOD, P and C, where every line is right by itself.
 #[derive(Clone, Copy)]
@@ -89,31 +88,16 @@ impl<'a> ModTable<'a> {
         if sender == 99 { None } else { Some(sender) }
     }
 
-    // What a pair names: that of operand j, or for 4 the one that is sent.
-    fn pair_at(&self, place: Place, j: usize) -> Operand
+    // What operand j of the line names.
+    #[tactic(auto, unfolding(model::specs::ModuleFile::module_of))]
+    pub fn operand_at(&self, place: Place, j: usize) -> Operand
         requires within { Within self.now.shape place.processor place.slot.0 }
-        requires j_bound { j < 5 }
-        ensures { result ≡ pair_of self.now.modfile.now place.processor place.slot.0 j }
+        requires j_bound { j < 4 }
+        ensures { result ≡ operand_named (module_of self.now.modfile.now) place.processor place.slot.0 j }
     {
         instruction::operand_of(
             self.column_at(place, 3 + 2 * j),
             self.column_at(place, 4 + 2 * j) as u8,
         )
-    }
-
-    // The line of a processor and a slot.
-    pub fn instruction_at(&self, place: Place) -> Instruction
-        requires { Within self.now.shape place.processor place.slot.0 }
-        ensures { result ≡ instruction_of (module_of self.now.modfile.now) place.processor place.slot.0 }
-    {
-        Instruction {
-            signal: self.signal_at(place),
-            a1: self.pair_at(place, 0),
-            a2: self.pair_at(place, 1),
-            a3: self.pair_at(place, 2),
-            a4: self.pair_at(place, 3),
-            send: self.pair_at(place, 4),
-            sender: self.column_at(place, 13) as u8,
-        }
     }
 }
