@@ -4,7 +4,7 @@ use mathlib.Core.Path.{◌≡◌, refl, sym, ap, ◌∙◌}
 use mathlib.Core.Bool.{Bool, true, false}
 use mathlib.Core.List.{List}
 use native.Mathlib.Omega.{arith}
-use native.Mathlib.Nat.{add-zero, div-add-mod'}
+use native.Mathlib.Nat.{div-add-mod'}
 use Rattle.logic.proofs.Tests.{all_same}
 use Rattle.fields.specs.Line.{is_line_at}
 use Rattle.model.specs.Refusal.{Check, fail, pass, first_below}
@@ -14,29 +14,23 @@ use Rattle.model.specs.ModuleFile.{mod_line, mod_processors, mod_slots, mod_inde
 use Rattle.model.proofs.Refusals.{unless_pass}
 use Rattle.file_lines.proofs.Lines.{test_stops, test_goes_on, test_fails}
 use Rattle.file_mod_lines.specs.Answer.{Sized}
-use Rattle.file_mod_lines.specs.declared.ModAnswer.TheVariants.{Accepted}
+use Rattle.file_mod_lines.specs.declared.Shape.{Shape}
 use Rattle.instruction.specs.Sender.{sender_laid}
 use Rattle.file_mod_lines.specs.Layout.{pair_laid, pair_at, operands_at, line_at}
 
 -- an operand's layout, by the judgement of its pair
 operand_judged : (l : List ℕ) (p i j : ℕ)
-    → operand_layout (module_of l) p i j ≡ pair_at l (mod_line (mod_index l p i) + 18 + 12 * j) switch_present (mod_slots l)
+    → operand_layout (module_of l) p i j ≡ pair_at l (mod_line (mod_index l p i)) (3 + 2 * j) switch_present (mod_slots l)
 unfolding operand_layout location_layout module_of pair_laid
-operand_judged l p i j =
-    let at = mod_line (mod_index l p i) in
-    let e1 : at + 6 * (3 + 2 * j) ≡ at + 18 + 12 * j = omega arith in
-    let e2 : at + 6 * (4 + 2 * j) ≡ at + 18 + 12 * j + 6 = omega arith in
-    rw (e1, e2) refl
+operand_judged l p i j = let next : 4 + 2 * j ≡ 3 + 2 * j + 1 = omega arith in rw next refl
 
 -- a line's layout, by the judgement at its place
 line_judged : (n : Network) (l : List ℕ) (p i : ℕ)
     → line_layout n l p i ≡ line_at l (mod_line (mod_index l p i)) p i n.size (mod_processors l) (mod_slots l)
 unfolding line_layout location_layout send_layout sender_layout module_of line_at operands_at pair_laid sender_laid
 line_judged n l p i =
-    let at = mod_line (mod_index l p i) in
-    let operands = all_same (operand_layout (module_of l) p i) (λ j. pair_at l (at + 18 + 12 * j) switch_present (mod_slots l)) 4 (λ j low. operand_judged l p i j) in
-    let location : at + 66 + 6 ≡ at + 72 = omega arith in
-    rw (operands, add-zero at, location) refl
+    let pair : ℕ → Bool = λ j. pair_at l (mod_line (mod_index l p i)) (3 + 2 * j) switch_present (mod_slots l) in
+    rw (all_same (operand_layout (module_of l) p i) pair 4 (λ j low. operand_judged l p i j)) refl
 
 -- the check of line k after the first
 abbrev pub line_check : Network → List ℕ → ℕ → Check
@@ -79,6 +73,6 @@ LinesPass signals l k = (n : Network) → n.size ≡ signals → first_below k (
 pub line_total : (l : List ℕ) (p c : ℕ) → Sized l p c → p * c ≡ mod_processors l * mod_slots l
 line_total l p c s = rw (s.processors, s.slots)
 
--- the accepting answer by its sizes
-pub same_sizes : {p c x y : ℕ} → p ≡ x → c ≡ y → Accepted p c ≡ Accepted x y
-same_sizes e f = rw (e, f)
+-- P and C are the shape
+pub same_shape : {p c x y : ℕ} → p ≡ x → c ≡ y → ◌≡◌ {A = Shape} (record { processors = p; slots = c }) (record { processors = x; slots = y })
+same_shape e f = rw (e, f)

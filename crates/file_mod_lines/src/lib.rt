@@ -3,27 +3,43 @@
 #![tactic(auto)]
 
 ghost use Rattle.std.specs.Prelude.{◌≡◌, true, ◌+◌, ◌*◌, ◌/◌, ◌%◌, ◌<◌, ◌≤◌};
-ghost use Rattle.fields.specs.Field.{is_field_at};
 ghost use Rattle.fields.specs.Line.{is_line_at};
 ghost use Rattle.model.specs.Network.{Network};
 ghost use Rattle.model.specs.ModuleFile.{mod_header, mod_slot, each_line, mod_surplus};
-ghost use Rattle.file_mod_lines.specs.Answer.{ModAnswers, Sized};
+ghost use Rattle.file_lines.specs.Answer.{Answers};
+ghost use Rattle.file_mod_lines.specs.Answer.{mod_refusal, ModAnswers, Sized};
 ghost use Rattle.file_mod_lines.specs.Form.{form_check};
-ghost use Rattle.file_mod_lines.specs.Layout.{header_laid, pair_laid, pair_at, operands_at, line_at};
+ghost use Rattle.file_mod_lines.specs.Layout.{number_in, header_at, pair_at, operands_at, line_at};
 
 use clock::Slot;
-use fields::{Field, Line};
+use file_lines::Refusal;
 
-// MOD accepted with P and C, or refused: with a line, and at 22 with a signal.
-#[derive(Clone, Copy)]
-pub enum ModAnswer {
-    Accepted(u16, u16),
+// What MOD is refused for: a line, and at 22 a signal.
+#[derive(Clone, Copy, Debug, PartialEq, Eq)]
+pub enum ModRefusal {
     Misformed(u16),
     Layout(u16),
     Placement(u16),
     Send(u16),
     Reception(u16),
     WrongOperand(u16),
+}
+
+impl Refusal for ModRefusal {
+    ghost use Rattle.file_mod_lines.specs.Answer.{mod_refusal};
+
+    ghost refusal = { mod_refusal };
+
+    fn told(self) -> (u8, u32) {
+        match self {
+            ModRefusal::Misformed(line) => (20, u32::from(line)),
+            ModRefusal::Layout(line) => (21, u32::from(line)),
+            ModRefusal::Placement(signal) => (22, u32::from(signal)),
+            ModRefusal::WrongOperand(line) => (23, u32::from(line)),
+            ModRefusal::Send(line) => (24, u32::from(line)),
+            ModRefusal::Reception(line) => (25, u32::from(line)),
+        }
+    }
 }
 
 // P and C, which line 1 gives.
@@ -40,190 +56,162 @@ pub struct Place {
     pub slot: Slot,
 }
 
-// "P (1 to 16), C (1 to 256), twelve zeros".
-fn header_laid(modfile: &[u8]) -> bool
-    requires { is_line_at modfile.now 0 14 ≡ true }
-    ensures { result ≡ header_laid modfile.now }
-{
-    let p = fields::number_at(modfile, 0);
-    if p < 1 {
-        return false;
+impl Shape {
+    // P × C.
+    pub fn lines(self) -> usize
+        requires { (self.processors ≤ 16) × (self.slots ≤ 256) }
+        ensures { (result ≡ self.processors * self.slots) × (result ≤ 4096) }
+    {
+        usize::from(self.processors) * usize::from(self.slots)
     }
-    if 16 < p {
-        return false;
+
+    // "by processor (0 to P-1), within it by slot (0 to C-1)": the place of the line k after the first.
+    pub fn place_of(self, k: usize) -> Place
+        requires { (k < 4096) × (1 ≤ self.slots) }
+        ensures { (result.processor ≡ k / self.slots) × (result.slot.0 ≡ k % self.slots) }
+    {
+        let slots = usize::from(self.slots);
+        Place {
+            processor: (k / slots) as u16,
+            slot: Slot((k % slots) as u16),
+        }
     }
-    let c = fields::number_at(modfile, 6);
-    if c < 1 {
-        return false;
+}
+
+impl Place {
+    // Where its line stands in MOD.
+    pub fn line_in(self, shape: Shape) -> usize
+        requires { (self.processor < 16) × (self.slot.0 < 256) × (shape.slots ≤ 256) }
+        ensures { (result ≡ 85 * (1 + self.processor * shape.slots + self.slot.0)) × (result ≤ 348160) }
+    {
+        let line = usize::from(self.processor) * usize::from(shape.slots);
+        85 * (1 + line + usize::from(self.slot.0))
     }
-    if 256 < c {
-        return false;
+}
+
+// A line that is right by itself: at an offset of MOD.
+#[derive(Clone, Copy)]
+pub struct Line<'a> {
+    pub modfile: &'a [u8],
+    pub at: usize,
+    pub ghost right: { is_line_at modfile.now at 14 ≡ true },
+}
+
+impl<'a> Line<'a> {
+    // The number in a column.
+    pub fn number(&self, column: usize) -> u16
+        requires { column < 14 }
+        ensures { result ≡ number_in self.now.modfile.now self.now.at column }
+    {
+        fields::number_at(self.modfile, self.at + 6 * column)
     }
-    fields::zeros_at(modfile, 12, 12)
+
+    // A pair from a column on: a part up to `most` and a location below C, or "Part 9 with location 0".
+    fn pair_laid(&self, column: usize, most: u16, slots: u16) -> bool
+        requires { column < 13 }
+        ensures { result ≡ pair_at self.now.modfile.now self.now.at column most slots }
+    {
+        let part = self.number(column);
+        let location = self.number(column + 1);
+        location < slots
+            && if part == 9 {
+                location == 0
+            } else {
+                part <= most
+            }
+    }
+
+    // The four operands: "part 0 to 3 or 9".
+    fn operands_laid(&self, slots: u16) -> bool
+        ensures { result ≡ operands_at self.now.modfile.now self.now.at slots }
+    {
+        (0..4).all(|j| self.pair_laid(3 + 2 * j, 3, slots))
+    }
+
+    // The layout is that of a place, N, P and C being given.
+    fn is_laid(&self, place: Place, signals: u16, shape: Shape) -> bool
+        ensures { result ≡ line_at self.now.modfile.now self.now.at place.processor place.slot.0 signals shape.processors shape.slots }
+    {
+        self.number(0) == place.processor
+            && self.number(1) == place.slot.0
+            && self.number(2) <= signals
+            && self.operands_laid(shape.slots)
+            && self.pair_laid(11, 1, shape.slots)
+            && instruction::sender_right(self.number(13), shape.processors)
+    }
+
+    // The layout is that of line 1: "P (1 to 16), C (1 to 256), twelve zeros".
+    fn is_header(&self) -> bool
+        ensures { result ≡ header_at self.now.modfile.now self.now.at }
+    {
+        (1..=16).contains(&self.number(0))
+            && (1..=256).contains(&self.number(1))
+            && (0..12).all(|k| self.number(2 + k) == 0)
+    }
 }
 
 // Line 1: 20, then 21.
-fn check_header(modfile: &[u8]) -> ModAnswer
+fn check_header(modfile: &[u8]) -> Result<Shape, ModRefusal>
     ensures { ModAnswers modfile.now (mod_header modfile.now) result }
 {
-    let Line::Next(_) = fields::read_line(modfile, 0, 14) else {
-        return ModAnswer::Misformed(1);
+    let Some(_) = fields::read_line(modfile, 0, 14) else {
+        return Err(ModRefusal::Misformed(1));
     };
-    if !header_laid(modfile) {
-        return ModAnswer::Layout(1);
+    let line = Line { modfile, at: 0 };
+    if !line.is_header() {
+        return Err(ModRefusal::Layout(1));
     }
-    let p = fields::number_at(modfile, 0);
-    let c = fields::number_at(modfile, 6);
-    ModAnswer::Accepted(p, c)
-}
-
-// A pair of a line: a part up to `most` and a location below C, or "Part 9 with location 0".
-fn pair_right(part: u16, location: u16, most: u16, slots: u16) -> bool
-    ensures { result ≡ pair_laid slots most part location }
-{
-    if slots <= location {
-        return false;
-    }
-    if part == 9 {
-        return location == 0;
-    }
-    part <= most
-}
-
-// The pair at a place.
-fn pair_laid(modfile: &[u8], at: usize, most: u16, slots: u16) -> bool
-    requires { (is_field_at modfile.now at ≡ true) × (is_field_at modfile.now (at + 6) ≡ true) }
-    ensures { result ≡ pair_at modfile.now at most slots }
-{
-    pair_right(
-        fields::number_at(modfile, at),
-        fields::number_at(modfile, at + 6),
-        most,
-        slots,
-    )
-}
-
-// The four operands of the line at a place: "part 0 to 3 or 9".
-fn operands_laid(modfile: &[u8], at: usize, slots: u16) -> bool
-    requires { is_line_at modfile.now at 14 ≡ true }
-    ensures { result ≡ operands_at modfile.now at slots }
-{
-    let mut j: usize = 0;
-    while j < 4 {
-        if !pair_laid(modfile, at + 18 + 12 * j, 3, slots) {
-            return false;
-        }
-        j += 1;
-    }
-    true
-}
-
-// The line at an offset has the layout of its place, N, P and C being given.
-fn line_laid(modfile: &[u8], at: usize, place: Place, signals: u16, shape: Shape) -> bool
-    requires { is_line_at modfile.now at 14 ≡ true }
-    ensures { result ≡ line_at modfile.now at place.processor place.slot.0 signals shape.processors shape.slots }
-{
-    if fields::number_at(modfile, at) != place.processor {
-        return false;
-    }
-    if fields::number_at(modfile, at + 6) != place.slot.0 {
-        return false;
-    }
-    if signals < fields::number_at(modfile, at + 12) {
-        return false;
-    }
-    if !operands_laid(modfile, at, shape.slots) {
-        return false;
-    }
-    if !pair_laid(modfile, at + 66, 1, shape.slots) {
-        return false;
-    }
-    instruction::sender_right(fields::number_at(modfile, at + 78), shape.processors)
-}
-
-// P × C.
-pub fn line_count(shape: Shape) -> usize
-    requires { (shape.processors ≤ 16) × (shape.slots ≤ 256) }
-    ensures { (result ≡ shape.processors * shape.slots) × (result ≤ 4096) }
-{
-    (shape.processors as usize) * (shape.slots as usize)
-}
-
-// "by processor (0 to P-1), within it by slot (0 to C-1)": the place of the line k after the first.
-pub fn place_of(k: usize, shape: Shape) -> Place
-    requires { (k < 4096) × (1 ≤ shape.slots) }
-    ensures { (result.processor ≡ k / shape.slots) × (result.slot.0 ≡ k % shape.slots) }
-{
-    let slots = shape.slots as usize;
-    Place {
-        processor: (k / slots) as u16,
-        slot: Slot((k % slots) as u16),
-    }
-}
-
-// Where the line of a place stands in MOD.
-pub fn line_at(place: Place, shape: Shape) -> usize
-    requires { (place.processor < 16) × (place.slot.0 < 256) × (shape.slots ≤ 256) }
-    ensures { (result ≡ 85 * (1 + place.processor * shape.slots + place.slot.0)) × (result ≤ 348160) }
-{
-    85 * (1 + (place.processor as usize) * (shape.slots as usize) + (place.slot.0 as usize))
+    Ok(Shape {
+        processors: line.number(0),
+        slots: line.number(1),
+    })
 }
 
 // The lines after the first, in their order: 20, then 21, and left at the first fault with its line.
-fn check_lines(modfile: &[u8], signals: u16, shape: Shape) -> ModAnswer
+fn check_lines(modfile: &[u8], signals: u16, shape: Shape) -> Result<(), ModRefusal>
     requires { Sized modfile.now shape.processors shape.slots }
-    ensures { (n : Network) → n.size ≡ signals → ModAnswers modfile.now (each_line modfile.now (mod_slot n modfile.now)) result }
+    ensures { (n : Network) → n.size ≡ signals → Answers mod_refusal tt (each_line modfile.now (mod_slot n modfile.now)) result }
 {
-    let lines = line_count(shape);
-    let mut answer = ModAnswer::Accepted(shape.processors, shape.slots);
-    let mut k: usize = 0;
-    'lines: while k < lines {
-        let line = 85 * (k + 1);
-        let mut column: usize = 0;
-        while column < 14 {
-            let Field::Number(_, _) = fields::read_field(modfile, line + 6 * column) else {
-                answer = ModAnswer::Misformed((k + 2) as u16);
+    let mut answer = Ok(());
+    'lines: for k in 0..shape.lines() {
+        let at = 85 * (k + 1);
+        for column in 0..14 {
+            let Some(_) = fields::read_field(modfile, at + 6 * column) else {
+                answer = Err(ModRefusal::Misformed((k + 2) as u16));
                 break 'lines;
             };
-            column += 1;
         }
-        if !fields::ends_line(modfile, line + 84) {
-            answer = ModAnswer::Misformed((k + 2) as u16);
+        if !fields::ends_line(modfile, at + 84) {
+            answer = Err(ModRefusal::Misformed((k + 2) as u16));
             break 'lines;
         }
-        if !line_laid(modfile, line, place_of(k, shape), signals, shape) {
-            answer = ModAnswer::Layout((k + 2) as u16);
+        let line = Line { modfile, at };
+        if !line.is_laid(shape.place_of(k), signals, shape) {
+            answer = Err(ModRefusal::Layout((k + 2) as u16));
             break 'lines;
         }
-        k += 1;
     }
     answer
 }
 
 // A line after the last: 20.
-fn check_surplus(modfile: &[u8], shape: Shape) -> ModAnswer
+fn check_surplus(modfile: &[u8], shape: Shape) -> Result<(), ModRefusal>
     requires { Sized modfile.now shape.processors shape.slots }
-    ensures { ModAnswers modfile.now (mod_surplus modfile.now) result }
+    ensures { Answers mod_refusal tt (mod_surplus modfile.now) result }
 {
-    let lines = line_count(shape);
+    let lines = shape.lines();
     if 85 * (lines + 1) < modfile.len() {
-        return ModAnswer::Misformed((lines + 2) as u16);
+        return Err(ModRefusal::Misformed((lines + 2) as u16));
     }
-    ModAnswer::Accepted(shape.processors, shape.slots)
+    Ok(())
 }
 
 // The lines of MOD, N being given: 20 and 21 line by line, and 20 for a line after the last.
-pub fn check_form(modfile: &[u8], signals: u16) -> ModAnswer
+pub fn check_form(modfile: &[u8], signals: u16) -> Result<Shape, ModRefusal>
     ensures { (n : Network) → n.size ≡ signals → ModAnswers modfile.now (form_check n modfile.now) result }
 {
-    let header = check_header(modfile);
-    let ModAnswer::Accepted(processors, slots) = header else {
-        return header;
-    };
-    let shape = Shape { processors, slots };
-    let lines = check_lines(modfile, signals, shape);
-    let ModAnswer::Accepted(_, _) = lines else {
-        return lines;
-    };
-    check_surplus(modfile, shape)
+    let shape = check_header(modfile)?;
+    check_lines(modfile, signals, shape)?;
+    check_surplus(modfile, shape)?;
+    Ok(shape)
 }

@@ -1,3 +1,2 @@
-pub mod Judged
-pub mod Sends
+pub mod Senders
 pub mod Operands

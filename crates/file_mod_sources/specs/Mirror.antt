@@ -6,8 +6,6 @@ use Rattle.std.specs.Prelude.{if◌then◌else◌}
 use Rattle.model.specs.Network.{unit_delay}
 use Rattle.model.specs.Module.{Module, local_earlier, local_present, sent_part, sent_signal, received, reads}
 use Rattle.model.specs.ModuleFile.{module_of}
-use Rattle.instruction.specs.declared.Instruction.{Instruction}
-use Rattle.instruction.specs.declared.Operand.{Operand}
 use Rattle.file_mod_sources.specs.declared.Gate.{Gate}
 
 -- the condition on a send that the two switch parts share ("look at the send into k"): something is sent into switch location k of
@@ -22,7 +20,3 @@ wanted_send kind = if eqb kind unit_delay then local_earlier else local_present
 -- an operand of the gate that names a part and location k reads the source
 abbrev pub gate_reads : List ℕ → Gate → ℕ → ℕ → Bool
 gate_reads modfile gate part k = reads (module_of modfile) gate.place.processor gate.place.slot.0 part k gate.kind gate.source
-
--- operand j of a line that was read as an instruction
-abbrev pub nth_operand : Instruction → ℕ → Operand
-nth_operand line j = if eqb j 0 then line.a1 else if eqb j 1 then line.a2 else if eqb j 2 then line.a3 else line.a4

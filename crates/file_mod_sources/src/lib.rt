@@ -2,27 +2,86 @@
 
 #![tactic(auto)]
 
-ghost use Rattle.std.specs.Prelude.{◌≡◌, ◌≤◌, eqb};
+ghost use Rattle.std.specs.Prelude.{◌≡◌, ◌<◌};
 ghost use Rattle.logic.specs.Test.{all};
-ghost use Rattle.model.specs.Netlist.{net_size, network};
-ghost use Rattle.model.specs.Module.{local_earlier, local_present, switch_earlier, switch_present, no_part, send_right, reception_right, operand_right};
+ghost use Rattle.model.specs.Netlist.{network};
+ghost use Rattle.model.specs.Module.{local_earlier, local_present, switch_earlier, switch_present, send_right, reception_right, operand_right};
 ghost use Rattle.model.specs.ModuleFile.{module_of};
-ghost use Rattle.model.specs.Checked.{Checked};
 ghost use Rattle.instruction.specs.Operand.{part_of, location_of};
-ghost use Rattle.file_mod_table.specs.Line.{LineOf};
-ghost use Rattle.file_mod_sources.specs.Asked.{OperandOf};
-ghost use Rattle.file_mod_sources.specs.Judged.{judged};
-ghost use Rattle.file_mod_sources.specs.Mirror.{sent_right, wanted_send, gate_reads, nth_operand};
+ghost use Rattle.file_mod_table.specs.Line.{Within};
+ghost use Rattle.file_mod_sources.specs.Asked.{Placed};
+ghost use Rattle.file_mod_sources.specs.Mirror.{sent_right, wanted_send, gate_reads};
 
 use clock::Slot;
-use file_mod_lines::{Place, Shape};
-use instruction::{Instruction, Operand};
+use file_mod_lines::Place;
+use file_mod_table::ModTable;
+use instruction::Operand;
 
-// What is found of a line's send, its reception or an operand: right, or refused by 24, 25 or 23.
-#[derive(Clone, Copy)]
-pub enum Judgement {
-    Right,
-    Wrong,
+// The kinds of signals and the parts of sends, as NET and MOD write them: they are compared where they are read, so no enum is made of them.
+const INPUT: u16 = 1;
+
+const UNIT_DELAY: u16 = 2;
+
+const RANK_ORDER: u16 = 3;
+
+const LOCAL_EARLIER: u16 = 0;
+
+const LOCAL_PRESENT: u16 = 1;
+
+const NO_PART: u16 = 9;
+
+// 24: the line at a place sends no "empty slot's location, or part 1 with location not below its own slot".
+#[tactic(auto, using(logic::proofs::Judged::connected), unfolding(model::specs::Module::send_right))]
+pub fn send_right(table: &ModTable, place: Place) -> bool
+    requires { Within table.now.shape place.processor place.slot.0 }
+    ensures { result ≡ send_right (module_of table.now.modfile.now) place.processor place.slot.0 }
+{
+    let part = table.send_part_at(place);
+    let location = table.send_location_at(place);
+    let sent = Place {
+        slot: Slot(location),
+        ..place
+    };
+    part == NO_PART
+        || table.signal_at(sent) != 0 && (part != LOCAL_PRESENT || location < place.slot.0)
+}
+
+// 25: it does not receive "from a processor that sends none in that slot".
+pub fn reception_right(table: &ModTable, place: Place) -> bool
+    requires { Within table.now.shape place.processor place.slot.0 }
+    ensures { result ≡ reception_right (module_of table.now.modfile.now) place.processor place.slot.0 }
+{
+    let Some(processor) = table.sender_at(place) else {
+        return true;
+    };
+    table.send_part_at(Place { processor, ..place }) != NO_PART
+}
+
+// "Switch: look at the send into k": it is there, of the given part, and of the source.
+fn sent_right(table: &ModTable, into: Place, part: u16, source: u16) -> bool
+    requires { Within table.now.shape into.processor into.slot.0 }
+    ensures { result ≡ sent_right (module_of table.now.modfile.now) into.processor into.slot.0 part source }
+{
+    let Some(processor) = table.sender_at(into) else {
+        return false;
+    };
+    let from = Place { processor, ..into };
+    let sent = Place {
+        slot: Slot(table.send_location_at(from)),
+        ..from
+    };
+    table.send_part_at(from) == part && table.signal_at(sent) == source
+}
+
+// The part of the send that part 3 wants.
+fn wanted_send(kind: u16) -> u16
+    ensures { result ≡ wanted_send kind }
+{
+    if kind == UNIT_DELAY {
+        LOCAL_EARLIER
+    } else {
+        LOCAL_PRESENT
+    }
 }
 
 // The gate of an operand: its place, its kind, and the source that the operand has to read.
@@ -33,244 +92,98 @@ struct Gate {
     source: u16,
 }
 
-// A test as a judgement.
-pub fn judged_by(right: bool) -> Judgement
-    ensures { result ≡ judged right }
-{
-    if right {
-        return Judgement::Right;
+impl Gate {
+    // The place of a location that an operand names, which is the gate's processor's.
+    fn named(self, location: u16) -> Place
+        ensures { (result.processor ≡ self.place.processor) × (result.slot.0 ≡ location) }
+    {
+        Place {
+            slot: Slot(location),
+            ..self.place
+        }
     }
-    Judgement::Wrong
-}
 
-// 24: the line at a place sends no "empty slot's location, or part 1 with location not below its own slot".
-pub fn send_right(modfile: &[u8], shape: Shape, place: Place) -> bool
-    requires { LineOf modfile.now shape.slots place.processor place.slot.0 }
-    ensures { result ≡ send_right (module_of modfile.now) place.processor place.slot.0 }
-{
-    let part = file_mod_table::send_part_at(modfile, shape, place);
-    if part == 9 {
-        return true;
+    // "Local 0: the signal placed at k is the source, gate unit-delay."
+    #[tactic(auto, using(logic::proofs::Judged::connected), unfolding(model::specs::Module::reads, crate::specs::Mirror::sent_right))]
+    fn local_earlier_right(self, table: &ModTable, k: u16) -> bool
+        requires { Within table.now.shape self.place.processor k }
+        ensures { result ≡ gate_reads table.now.modfile.now self local_earlier k }
+    {
+        self.kind == UNIT_DELAY && table.signal_at(self.named(k)) == self.source
     }
-    let location = file_mod_table::send_location_at(modfile, shape, place);
-    let sent = Place {
-        processor: place.processor,
-        slot: Slot(location),
-    };
-    if file_mod_table::signal_at(modfile, shape, sent) == 0 {
-        return false;
-    }
-    if part != 1 {
-        return true;
-    }
-    location < place.slot.0
-}
 
-// 25: it does not receive "from a processor that sends none in that slot".
-pub fn reception_right(modfile: &[u8], shape: Shape, place: Place) -> bool
-    requires { LineOf modfile.now shape.slots place.processor place.slot.0 }
-    ensures { result ≡ reception_right (module_of modfile.now) place.processor place.slot.0 }
-{
-    let sender = file_mod_table::sender_at(modfile, shape, place);
-    if sender == 99 {
-        return true;
+    // "Local 1: k < i, the signal at k is the source, gate rank-order."
+    #[tactic(auto, using(logic::proofs::Judged::connected), unfolding(model::specs::Module::reads, crate::specs::Mirror::sent_right))]
+    fn local_present_right(self, table: &ModTable, k: u16) -> bool
+        requires { Within table.now.shape self.place.processor k }
+        ensures { result ≡ gate_reads table.now.modfile.now self local_present k }
+    {
+        self.kind == RANK_ORDER
+            && k < self.place.slot.0
+            && table.signal_at(self.named(k)) == self.source
     }
-    let slot = place.slot;
-    let from = Place {
-        processor: sender,
-        slot,
-    };
-    file_mod_table::send_part_at(modfile, shape, from) != 9
-}
 
-// "Switch: look at the send into k": it is there, of the given part, and of the source.
-fn sent_right(modfile: &[u8], shape: Shape, into: Place, part: u16, source: u16) -> bool
-    requires { LineOf modfile.now shape.slots into.processor into.slot.0 }
-    ensures { result ≡ sent_right (module_of modfile.now) into.processor into.slot.0 part source }
-{
-    let sender = file_mod_table::sender_at(modfile, shape, into);
-    if sender == 99 {
-        return false;
+    // "Part 2 wants a send of part 1, gate unit-delay."
+    #[tactic(auto, using(logic::proofs::Judged::connected), unfolding(model::specs::Module::reads, crate::specs::Mirror::sent_right))]
+    fn switch_earlier_right(self, table: &ModTable, k: u16) -> bool
+        requires { Within table.now.shape self.place.processor k }
+        ensures { result ≡ gate_reads table.now.modfile.now self switch_earlier k }
+    {
+        self.kind == UNIT_DELAY && sent_right(table, self.named(k), LOCAL_PRESENT, self.source)
     }
-    let slot = into.slot;
-    let from = Place {
-        processor: sender,
-        slot,
-    };
-    if file_mod_table::send_part_at(modfile, shape, from) != part {
-        return false;
-    }
-    let location = file_mod_table::send_location_at(modfile, shape, from);
-    let sent = Place {
-        processor: sender,
-        slot: Slot(location),
-    };
-    file_mod_table::signal_at(modfile, shape, sent) == source
-}
 
-// "Local 0: the signal placed at k is the source, gate unit-delay."
-fn local_earlier_right(modfile: &[u8], shape: Shape, gate: Gate, location: u16) -> bool
-    requires { LineOf modfile.now shape.slots gate.place.processor location }
-    ensures { result ≡ gate_reads modfile.now gate local_earlier location }
-{
-    if gate.kind != 2 {
-        return false;
+    // "Part 3 wants k < i, and a send of part 0 for a unit-delay gate or part 1 for a rank-order gate."
+    #[tactic(auto, using(logic::proofs::Judged::connected), unfolding(model::specs::Module::reads, crate::specs::Mirror::sent_right))]
+    fn switch_present_right(self, table: &ModTable, k: u16) -> bool
+        requires { Within table.now.shape self.place.processor k }
+        ensures { result ≡ gate_reads table.now.modfile.now self switch_present k }
+    {
+        k < self.place.slot.0
+            && sent_right(table, self.named(k), wanted_send(self.kind), self.source)
     }
-    let named = Place {
-        processor: gate.place.processor,
-        slot: Slot(location),
-    };
-    file_mod_table::signal_at(modfile, shape, named) == gate.source
-}
 
-// "Local 1: k < i, the signal at k is the source, gate rank-order."
-fn local_present_right(modfile: &[u8], shape: Shape, gate: Gate, location: u16) -> bool
-    requires { LineOf modfile.now shape.slots gate.place.processor location }
-    ensures { result ≡ gate_reads modfile.now gate local_present location }
-{
-    if gate.kind != 3 {
-        return false;
-    }
-    if gate.place.slot.0 <= location {
-        return false;
-    }
-    let named = Place {
-        processor: gate.place.processor,
-        slot: Slot(location),
-    };
-    file_mod_table::signal_at(modfile, shape, named) == gate.source
-}
-
-// "Part 2 wants a send of part 1, gate unit-delay."
-fn switch_earlier_right(modfile: &[u8], shape: Shape, gate: Gate, k: u16) -> bool
-    requires { LineOf modfile.now shape.slots gate.place.processor k }
-    ensures { result ≡ gate_reads modfile.now gate switch_earlier k }
-{
-    if gate.kind != 2 {
-        return false;
-    }
-    let named = Place {
-        processor: gate.place.processor,
-        slot: Slot(k),
-    };
-    sent_right(modfile, shape, named, 1, gate.source)
-}
-
-// The part of the send that part 3 wants.
-fn wanted_send(kind: u16) -> u16
-    ensures { result ≡ wanted_send kind }
-{
-    if kind == 2 {
-        return 0;
-    }
-    1
-}
-
-// "Part 3 wants k < i, and a send of part 0 for a unit-delay gate or part 1 for a rank-order gate."
-fn switch_present_right(modfile: &[u8], shape: Shape, gate: Gate, k: u16) -> bool
-    requires { LineOf modfile.now shape.slots gate.place.processor k }
-    ensures { result ≡ gate_reads modfile.now gate switch_present k }
-{
-    if gate.place.slot.0 <= k {
-        return false;
-    }
-    let named = Place {
-        processor: gate.place.processor,
-        slot: Slot(k),
-    };
-    sent_right(modfile, shape, named, wanted_send(gate.kind), gate.source)
-}
-
-// The operand reads the source.
-fn reads_source(modfile: &[u8], shape: Shape, gate: Gate, a: Operand) -> bool
-    requires { LineOf modfile.now shape.slots gate.place.processor (location_of a) }
-    ensures { result ≡ gate_reads modfile.now gate (part_of a) (location_of a) }
-{
-    match a {
-        Operand::LocalEarlier(k) => local_earlier_right(modfile, shape, gate, k as u16),
-        Operand::LocalPresent(k) => local_present_right(modfile, shape, gate, k as u16),
-        Operand::SwitchEarlier(k) => switch_earlier_right(modfile, shape, gate, k as u16),
-        Operand::SwitchPresent(k) => switch_present_right(modfile, shape, gate, k as u16),
-        Operand::None(_) => false,
+    // The operand reads the source.
+    #[tactic(auto, using(logic::proofs::Judged::connected), unfolding(model::specs::Module::reads, crate::specs::Mirror::sent_right))]
+    fn reads(self, table: &ModTable, a: Operand) -> bool
+        requires { Within table.now.shape self.place.processor (location_of a) }
+        ensures { result ≡ gate_reads table.now.modfile.now self (part_of a) (location_of a) }
+    {
+        match a {
+            Operand::LocalEarlier(k) => self.local_earlier_right(table, u16::from(k)),
+            Operand::LocalPresent(k) => self.local_present_right(table, u16::from(k)),
+            Operand::SwitchEarlier(k) => self.switch_earlier_right(table, u16::from(k)),
+            Operand::SwitchPresent(k) => self.switch_present_right(table, u16::from(k)),
+            Operand::None(_) => false,
+        }
     }
 }
 
-// "Part 9 with location 0 means none".
-fn is_none(a: Operand) -> bool
-    ensures { result ≡ eqb (part_of a) no_part }
+// 23: operand j of the line at a place. "An operand whose source is 0, and all operands of inputs and empty slots, must be none."
+fn operand_right(net: &[u8], table: &ModTable, place: Place, j: usize) -> bool
+    requires placed { Placed net.now table.now.modfile.now table.now.shape place.processor place.slot.0 }
+    requires j_bound { j < 4 }
+    ensures { result ≡ operand_right (network net.now) (module_of table.now.modfile.now) place.processor place.slot.0 j }
 {
-    let Operand::None(_) = a else {
-        return false;
-    };
-    true
-}
-
-// 23: operand j of the line of a processor and a slot, where the signal and the operand are the line's.
-// "An operand whose source is 0, and all operands of inputs and empty slots, must be none."
-fn operand_right(
-    net: &[u8],
-    modfile: &[u8],
-    shape: Shape,
-    place: Place,
-    signal: u16,
-    j: usize,
-    a: Operand,
-) -> bool
-    requires { OperandOf net.now modfile.now shape.slots place.processor place.slot.0 signal j a }
-    ensures { result ≡ operand_right (network net.now) (module_of modfile.now) place.processor place.slot.0 j }
-{
-    if signal == 0 {
-        return is_none(a);
-    }
-    let line = 73 * (signal as usize);
+    let signal = table.signal_at(place);
+    let a = table.operand_at(place, j);
+    let line = 73 * usize::from(signal);
     let kind = fields::number_at(net, line);
-    if kind == 1 {
-        return is_none(a);
-    }
     let source = fields::number_at(net, line + 6 * (8 + j));
-    if source == 0 {
-        return is_none(a);
+    if signal == 0 || kind == INPUT || source == 0 {
+        return matches!(a, Operand::None(_));
     }
     let gate = Gate {
         place,
         kind,
         source,
     };
-    reads_source(modfile, shape, gate, a)
+    gate.reads(table, a)
 }
 
-// Operand j of a line.
-fn nth_operand(line: Instruction, j: usize) -> Operand
-    ensures { result ≡ nth_operand line j }
+// 23: the four operands of the line at a place.
+pub fn operands_right(net: &[u8], table: &ModTable, place: Place) -> bool
+    requires { Placed net.now table.now.modfile.now table.now.shape place.processor place.slot.0 }
+    ensures { result ≡ all 4 (operand_right (network net.now) (module_of table.now.modfile.now) place.processor place.slot.0) }
 {
-    let a1 = line.a1;
-    let a2 = line.a2;
-    let a3 = line.a3;
-    let a4 = line.a4;
-    match j {
-        0 => a1,
-        1 => a2,
-        2 => a3,
-        _ => a4,
-    }
-}
-
-// 23: the four operands of the line at a place. The first that is not right decides.
-pub fn judge_operands(net: &[u8], modfile: &[u8], shape: Shape, place: Place) -> Judgement
-    requires line_of { LineOf modfile.now shape.slots place.processor place.slot.0 }
-    requires checked { Checked net.now }
-    requires slot_bound { (module_of modfile.now).signal place.processor place.slot.0 ≤ net_size net.now }
-    ensures { result ≡ judged (all 4 (operand_right (network net.now) (module_of modfile.now) place.processor place.slot.0)) }
-{
-    let line = file_mod_table::instruction_at(modfile, shape, place);
-    let mut j: usize = 0;
-    while j < 4 {
-        let a = nth_operand(line, j);
-        let right = operand_right(net, modfile, shape, place, line.signal, j, a);
-        if !right {
-            return judged_by(right);
-        }
-        j += 1;
-    }
-    Judgement::Right
+    (0..4).all(|j| operand_right(net, table, place, j))
 }

@@ -1,35 +1,40 @@
 -- What a right line has: its fields are right where they are read, its numbers are the module's, and they are in their ranges.
 use Prim.Native.Nat.{ℕ, ◌+◌, ◌*◌, ◌<◌, ◌≤◌}
-use mathlib.Core.Path.{◌≡◌, sym, ap, subst, ◌∙◌}
+use mathlib.Core.Path.{◌≡◌, refl, sym, ap, subst, ◌∙◌}
 use mathlib.Core.Bool.{true}
 use mathlib.Core.List.{List}
 use mathlib.Core.Logic.{⊎_elim}
 use native.Mathlib.Omega.{arith}
+use borrow.Author.Tests.{eq-eqb, ne_eqb}
 use native.Mathlib.Decide.{ℕ_discrete}
 use Rattle.fields.specs.Field.{number_at}
 use Rattle.fields.specs.Line.{is_line_at}
-use Rattle.model.specs.Module.{Module, no_sender}
+use Rattle.model.specs.Module.{no_sender}
 use Rattle.model.specs.ModuleFile.{mod_line, mod_field, mod_processors, mod_index, module_of, mod_slot}
 use Rattle.model.proofs.Accepted.{SlotRight, slot_right, at_pass}
-use Rattle.instruction.specs.Instruction.{operand_named, send_named, instruction_of}
-use Rattle.instruction.specs.declared.Operand.{Operand}
-use Rattle.file_mod_table.specs.Line.{LinesLaid, LineOf}
+use Rattle.std.specs.Prelude.{Some, None}
+use Rattle.file_mod_table.specs.Sender.{sender_numbered}
+use Rattle.file_mod_lines.specs.declared.Shape.{Shape}
+use Rattle.file_mod_table.specs.Line.{widest, LinesLaid, Within, LineOf}
 
 pub line_of : (l : List ℕ) (p c q i : ℕ) → LinesLaid l p c → q < p → i < c → LineOf l c q i
 line_of l p c q i laid low-q low-i =
     let e = laid.sized.processors in
     record { laid = subst (λ (x : ℕ). LinesLaid l x c) e laid; processor = omega arith; slot = low-i }
 
-pub laid_slot : (l : List ℕ) (p c q i : ℕ) (laid : LinesLaid l p c) → q < p → i < c → SlotRight laid.network l q i
+pub line_within : {l : List ℕ} {shape : Shape} {q i : ℕ} → LinesLaid l shape.processors shape.slots → Within shape q i → LineOf l shape.slots q i
+line_within laid within = line_of _ _ _ _ _ laid within.processor within.slot
+
+pub laid_slot : (l : List ℕ) (p c q i : ℕ) (laid : LinesLaid l p c) → q < p → i < c → SlotRight widest l q i
 unfolding module_of
 laid_slot l p c q i laid low-q low-i =
     let s = laid.sized in
-    slot_right laid.network l q i
-    (at_pass l (mod_slot laid.network l) laid.lines q i
+    slot_right widest l q i
+    (at_pass l (mod_slot widest l) laid.lines q i
     (record { processor = omega (arith, s.processors); slot = omega (arith, s.slots) }))
 
 module _ (l : List ℕ) (c q i : ℕ) (line : LineOf l c q i) where
-  pub slot_laid : SlotRight line.laid.network l q i
+  pub slot_laid : SlotRight widest l q i
   slot_laid = laid_slot l (mod_processors l) c q i line.laid line.processor line.slot
 
   -- the line stands at an offset
@@ -45,7 +50,7 @@ module _ (l : List ℕ) (c q i : ℕ) (line : LineOf l c q i) where
 
   pub signal_most : (module_of l).signal q i ≤ 4096
   unfolding module_of
-  signal_most = omega (arith, slot_laid.signal, line.laid.few)
+  signal_most = slot_laid.signal
 
   pub send_low : (module_of l).send_location q i < c
   unfolding module_of
@@ -56,7 +61,7 @@ module _ (l : List ℕ) (c q i : ℕ) (line : LineOf l c q i) where
   operand_low j low = omega (arith, (slot_laid.operand j low).low, line.laid.sized.slots)
 
   -- a processor received from is one of the module's
-  sender_low : ((module_of l).sender q i ≡ no_sender → ⊥) → (module_of l).sender q i < mod_processors l
+  pub sender_low : ((module_of l).sender q i ≡ no_sender → ⊥) → (module_of l).sender q i < mod_processors l
   unfolding module_of
   sender_low d = ⊎_elim (λ h. h) (λ e. absurd (d e)) slot_laid.sender
 
@@ -83,9 +88,10 @@ module _ (l : List ℕ) (c q i : ℕ) (line : LineOf l c q i) where
       ⊎_elim (λ (h : mod_field l (mod_index l q i) 13 < mod_processors l). omega (arith, line.laid.sized.processors_high))
       (λ (e : mod_field l (mod_index l q i) 13 ≡ 99). omega arith) slot_laid.sender
 
--- an instruction whose parts are those of a line
-pub instruction_made : (m : Module) (p i signal sender : ℕ) (a1 a2 a3 a4 send : Operand) → signal ≡ m.signal p i
-    → a1 ≡ operand_named m p i 0 → a2 ≡ operand_named m p i 1 → a3 ≡ operand_named m p i 2 → a4 ≡ operand_named m p i 3
-    → send ≡ send_named m p i → sender ≡ m.sender p i
-    → record { signal = signal; a1 = a1; a2 = a2; a3 = a3; a4 = a4; send = send; sender = sender } ≡ instruction_of m p i
-instruction_made m p i signal sender a1 a2 a3 a4 send e e1 e2 e3 e4 f g = rw (e, e1, e2, e3, e4, f, g)
+-- the number x of the processor received from
+module _ (x sender : ℕ) (is : x ≡ sender) where
+  pub sender_none : x ≡ 99 → None ≡ sender_numbered sender
+  sender_none e = sym (rw (eq-eqb sender no_sender (sym is ∙ e)) refl)
+
+  pub sender_some : (x ≡ 99 → ⊥) → Some x ≡ sender_numbered sender
+  sender_some d = rw is (sym (rw (ne_eqb sender no_sender (λ (e : sender ≡ 99). d (is ∙ e))) refl))

@@ -2,100 +2,102 @@
 
 #![tactic(auto)]
 
-ghost use Rattle.std.specs.Prelude.{◌≡◌, true, ◌+◌, ◌*◌, ◌<◌, ◌≤◌};
-ghost use Rattle.fields.specs.Field.{number_at};
-ghost use Rattle.fields.specs.Line.{is_line_at};
+ghost use Rattle.std.specs.Prelude.{◌≡◌, ◌+◌, ◌*◌, ◌<◌, ◌≤◌, IfSome};
 ghost use Rattle.model.specs.ModuleFile.{mod_index, mod_field, module_of};
-ghost use Rattle.instruction.specs.Instruction.{instruction_of};
-ghost use Rattle.file_mod_table.specs.Line.{LinesLaid, LineOf};
-ghost use Rattle.file_mod_table.specs.Mirror.{pair_of};
+ghost use Rattle.instruction.specs.Instruction.{operand_named};
+ghost use Rattle.file_mod_table.specs.Line.{LinesLaid, Within};
+ghost use Rattle.file_mod_table.specs.Sender.{sender_of};
 
-use file_mod_lines::{Place, Shape};
-use instruction::{Instruction, Operand};
+use file_mod_lines::{Line, Place, Shape};
+use instruction::Operand;
 
-// The number in a column of the line at an offset: every reader of MOD's lines comes here.
-fn number_in(modfile: &[u8], line: usize, column: usize) -> u16
-    requires line_value { is_line_at modfile.now line 14 ≡ true }
-    requires line_bound { (line ≤ 348160) × (column < 14) }
-    ensures { result ≡ number_at modfile.now (line + 6 * column) }
-{
-    fields::number_at(modfile, line + 6 * column)
+// MOD, P and C, where every line is right by itself.
+#[derive(Clone, Copy)]
+pub struct ModTable<'a> {
+    pub modfile: &'a [u8],
+    pub shape: Shape,
+    pub ghost laid: { LinesLaid modfile.now shape.processors shape.slots },
 }
 
-// The number in a column of the line at a place.
-pub fn column_at(modfile: &[u8], shape: Shape, place: Place, column: usize) -> u16
-    requires line_of { LineOf modfile.now shape.slots place.processor place.slot.0 }
-    requires column_bound { column < 14 }
-    ensures { result ≡ mod_field modfile.now (mod_index modfile.now place.processor place.slot.0) column }
-{
-    number_in(modfile, file_mod_lines::line_at(place, shape), column)
-}
+impl<'a> ModTable<'a> {
+    pub fn new(modfile: &'a [u8], shape: Shape) -> Self
+        requires { LinesLaid modfile.now shape.processors shape.slots }
+        ensures { (result.modfile.now ≡ modfile.now) × (result.shape ≡ shape) }
+    {
+        ModTable { modfile, shape }
+    }
 
-// The signal placed there, 0 in an empty slot.
-pub fn signal_at(modfile: &[u8], shape: Shape, place: Place) -> u16
-    requires { LineOf modfile.now shape.slots place.processor place.slot.0 }
-    ensures { result ≡ (module_of modfile.now).signal place.processor place.slot.0 }
-{
-    column_at(modfile, shape, place, 2)
-}
+    // The number in a column of the line at a place.
+    pub fn column_at(&self, place: Place, column: usize) -> u16
+        requires within { Within self.now.shape place.processor place.slot.0 }
+        requires column_bound { column < 14 }
+        ensures { result ≡ mod_field self.now.modfile.now (mod_index self.now.modfile.now place.processor place.slot.0) column }
+    {
+        let line = Line {
+            modfile: self.modfile,
+            at: place.line_in(self.shape),
+        };
+        line.number(column)
+    }
 
-// The signal of line k after the first, for use as an index. It stands at a known offset, so that no place is divided out of k.
-pub fn signal_of(modfile: &[u8], shape: Shape, k: usize) -> usize
-    requires lines_laid { LinesLaid modfile.now shape.processors shape.slots }
-    requires k_bound { (k < shape.processors * shape.slots) × (k < 4096) }
-    ensures { (result ≡ mod_field modfile.now (k + 1) 2) × (result ≤ 4096) }
-{
-    number_in(modfile, 85 * (k + 1), 2) as usize
-}
+    // The signal placed there, 0 in an empty slot.
+    #[tactic(auto, unfolding(model::specs::ModuleFile::module_of))]
+    pub fn signal_at(&self, place: Place) -> u16
+        requires { Within self.now.shape place.processor place.slot.0 }
+        ensures { result ≡ (module_of self.now.modfile.now).signal place.processor place.slot.0 }
+    {
+        self.column_at(place, 2)
+    }
 
-// The pair that is sent: its part, 9 where nothing is sent.
-pub fn send_part_at(modfile: &[u8], shape: Shape, place: Place) -> u16
-    requires { LineOf modfile.now shape.slots place.processor place.slot.0 }
-    ensures { result ≡ (module_of modfile.now).send_part place.processor place.slot.0 }
-{
-    column_at(modfile, shape, place, 11)
-}
+    // The signal of line k after the first, for use as an index. It stands at a known offset, so that no place is divided out of k.
+    pub fn signal_of(&self, k: usize) -> usize
+        requires { k < self.now.shape.processors * self.now.shape.slots }
+        ensures { (result ≡ mod_field self.now.modfile.now (k + 1) 2) × (result ≤ 4096) }
+    {
+        let line = Line {
+            modfile: self.modfile,
+            at: 85 * (k + 1),
+        };
+        usize::from(line.number(2))
+    }
 
-// Its location, which is that of a slot.
-pub fn send_location_at(modfile: &[u8], shape: Shape, place: Place) -> u16
-    requires { LineOf modfile.now shape.slots place.processor place.slot.0 }
-    ensures { (result ≡ (module_of modfile.now).send_location place.processor place.slot.0) × (result < shape.slots) }
-{
-    column_at(modfile, shape, place, 12)
-}
+    // The pair that is sent: its part, 9 where nothing is sent.
+    #[tactic(auto, unfolding(model::specs::ModuleFile::module_of))]
+    pub fn send_part_at(&self, place: Place) -> u16
+        requires { Within self.now.shape place.processor place.slot.0 }
+        ensures { result ≡ (module_of self.now.modfile.now).send_part place.processor place.slot.0 }
+    {
+        self.column_at(place, 11)
+    }
 
-// The processor received from, 99 where nothing is received.
-pub fn sender_at(modfile: &[u8], shape: Shape, place: Place) -> u16
-    requires { LineOf modfile.now shape.slots place.processor place.slot.0 }
-    ensures { result ≡ (module_of modfile.now).sender place.processor place.slot.0 }
-{
-    column_at(modfile, shape, place, 13)
-}
+    // Its location, which is that of a slot.
+    pub fn send_location_at(&self, place: Place) -> u16
+        requires { Within self.now.shape place.processor place.slot.0 }
+        ensures { (result ≡ (module_of self.now.modfile.now).send_location place.processor place.slot.0) × (result < self.now.shape.slots) }
+    {
+        self.column_at(place, 12)
+    }
 
-// What a pair names: that of operand j, or for 4 the one that is sent.
-fn pair_at(modfile: &[u8], shape: Shape, place: Place, j: usize) -> Operand
-    requires line_of { LineOf modfile.now shape.slots place.processor place.slot.0 }
-    requires j_bound { j < 5 }
-    ensures { result ≡ pair_of modfile.now place.processor place.slot.0 j }
-{
-    instruction::operand_of(
-        column_at(modfile, shape, place, 3 + 2 * j),
-        column_at(modfile, shape, place, 4 + 2 * j) as u8,
-    )
-}
+    // The processor received from, which is one of the module's, or none.
+    pub fn sender_at(&self, place: Place) -> Option<u16>
+        requires { Within self.now.shape place.processor place.slot.0 }
+        ensures value { result ≡ sender_of (module_of self.now.modfile.now) place.processor place.slot.0 }
+        ensures within { IfSome result (λ q. q < self.now.shape.processors) }
+    {
+        let sender = self.column_at(place, 13);
+        if sender == 99 { None } else { Some(sender) }
+    }
 
-// The line of a processor and a slot.
-pub fn instruction_at(modfile: &[u8], shape: Shape, place: Place) -> Instruction
-    requires { LineOf modfile.now shape.slots place.processor place.slot.0 }
-    ensures { result ≡ instruction_of (module_of modfile.now) place.processor place.slot.0 }
-{
-    Instruction {
-        signal: signal_at(modfile, shape, place),
-        a1: pair_at(modfile, shape, place, 0),
-        a2: pair_at(modfile, shape, place, 1),
-        a3: pair_at(modfile, shape, place, 2),
-        a4: pair_at(modfile, shape, place, 3),
-        send: pair_at(modfile, shape, place, 4),
-        sender: sender_at(modfile, shape, place) as u8,
+    // What operand j of the line names.
+    #[tactic(auto, unfolding(model::specs::ModuleFile::module_of))]
+    pub fn operand_at(&self, place: Place, j: usize) -> Operand
+        requires within { Within self.now.shape place.processor place.slot.0 }
+        requires j_bound { j < 4 }
+        ensures { result ≡ operand_named (module_of self.now.modfile.now) place.processor place.slot.0 j }
+    {
+        instruction::operand_of(
+            self.column_at(place, 3 + 2 * j),
+            self.column_at(place, 4 + 2 * j) as u8,
+        )
     }
 }

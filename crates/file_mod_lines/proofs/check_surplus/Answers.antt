@@ -2,17 +2,15 @@
 use mathlib.Core.Path.{refl, ◌∙◌}
 use Rattle.model.specs.ModuleFile.{mod_surplus}
 use Rattle.file_lines.proofs.Lines.{surplus_some, surplus_none}
-use Rattle.file_mod_lines.proofs.Lines.{line_total, same_sizes}
+use Rattle.file_mod_lines.proofs.Lines.{line_total}
 use Rattle.file_mod_lines.proofs.check_surplus.Goals as goal
 
 pub returns-then-lines-modfile : goal.returns-then-lines-modfile
 unfolding mod_surplus
 returns-then-lines-modfile c =
-    let lines = c.line_count-lines.ensures.0 ∙ line_total _ _ _ c.requires in
-    surplus_some c.args.modfile.now 85 _ 20 _ lines c.if-lines-modfile.true refl
+    surplus_some c.args.modfile.now 85 _ 20 _ (c.lines-lines.ensures.0 ∙ line_total _ _ _ c.requires) c.if-lines-modfile.true refl
 
 pub returns : goal.returns
 unfolding mod_surplus
 returns c =
-    let lines = c.line_count-lines.ensures.0 ∙ line_total _ _ _ c.requires in
-    surplus_none c.args.modfile.now 85 _ 20 _ lines c.if-lines-modfile.false (same_sizes c.requires.processors c.requires.slots) refl
+    surplus_none c.args.modfile.now 85 _ 20 _ (c.lines-lines.ensures.0 ∙ line_total _ _ _ c.requires) c.if-lines-modfile.false refl

@@ -1,7 +1,0 @@
--- Column 11 is the part of the send, by the definition of the module.
-use Rattle.model.specs.ModuleFile.{module_of}
-use Rattle.file_mod_table.proofs.send_part_at.Goals as goal
-
-pub returns : goal.returns
-unfolding module_of
-returns c = c.column_at.ensures
