@@ -6,25 +6,22 @@ use mathlib.Core.Bool.{Bool}
 use mathlib.Core.List.{List}
 use mathlib.Core.Logic.{⊎_elim}
 use native.Mathlib.Omega.{arith}
-use Rattle.std.specs.Prelude.{Result, Ok, Err}
+use Rattle.std.specs.Prelude.{Ok, Err}
 use Rattle.model.specs.Refusal.{Check, pass, fail, first, unless, first_below}
 use Rattle.model.proofs.Refusals.{first_fail, unless_false, below_fail}
-use Rattle.file_lines.specs.Answer.{answered}
+use Rattle.file_lines.specs.Answer.{Answers}
+use Rattle.file_lines.proofs.Stages.{refuses}
 use Rattle.session_answers.specs.Answers.{answer_bits, check_bits}
-use Rattle.session_answers.specs.Left.{left_after}
+use Rattle.session_answers.specs.Left.{Leaves}
 use Rattle.session_answers.specs.Recorded.{recorded_check}
 use Rattle.session_answers.proofs.Left.{left_done, left_refused}
 
--- what an answer says and what it leaves, by its check
-pub record Leaves {E : Type 0} (refusal : E → Check) (check : Check) (bytes lent : List ℕ) (r : Result Unit E) (left : List ℕ) : Type 0 where
-  pub answers : answered refusal r ≡ check
-  pub leaves : left ≡ left_after check bytes lent
-
 module _ {E : Type 0} {refusal : E → Check} {check : Check} {bytes lent left : List ℕ} where
-  pub leaves_lent : {e : E} → refusal e ≡ check → (check ≡ pass → ⊥) → left ≡ lent → Leaves refusal check bytes lent (Err e) left
-  leaves_lent told fails same = record { answers = told; leaves = same ∙ sym (left_refused check bytes lent fails) }
+  pub leaves_lent : {e : E} → Answers refusal (tt {0}) check (Err e) → left ≡ lent → Leaves refusal check bytes lent (Err e) left
+  leaves_lent answers same =
+      record { answers = answers.refuses; leaves = same ∙ sym (left_refused check bytes lent (refuses answers refl)) }
 
-  pub leaves_done : check ≡ pass → left ≡ bytes → Leaves refusal check bytes lent (Ok tt) left
+  pub leaves_done : check ≡ pass → left ≡ bytes → Leaves refusal check bytes lent (Ok (tt {0})) left
   leaves_done passed same = record { answers = sym passed; leaves = same ∙ sym (left_done check bytes lent passed) }
 
 -- a check that refuses by numbers from 40 on
