@@ -1,15 +1,17 @@
 -- A call on lent bytes, from its check: refused, it leaves the bytes lent, and done, it leaves the new ones. The bits 0 are those of a
 -- call that was done.
 use Prim.Native.Nat.{ℕ, ◌≤◌}
-use mathlib.Core.Path.{◌≡◌, refl, sym, ◌∙◌}
-use mathlib.Core.Bool.{Bool}
+use mathlib.Core.Path.{◌≡◌, refl, sym, ◌∙◌, ap}
+use mathlib.Core.Bool.{Bool, true, false}
 use mathlib.Core.List.{List}
 use mathlib.Core.Logic.{⊎_elim}
 use native.Mathlib.Omega.{arith}
-use Rattle.std.specs.Prelude.{Ok, Err}
+use Rattle.std.specs.Prelude.{Result, Ok, Err}
+use Rattle.std.specs.Result.{IsErrAnd}
+use Rattle.std.proofs.lemmas.Result.{err_from_is_err_and}
 use Rattle.model.specs.Refusal.{Check, pass, fail, first, unless, first_below}
 use Rattle.model.proofs.Refusals.{first_fail, unless_false, below_fail}
-use Rattle.file_lines.specs.Answer.{Answers}
+use Rattle.file_lines.specs.Answer.{answered, Answers}
 use Rattle.file_lines.proofs.Stages.{refuses}
 use Rattle.session_answers.specs.Answers.{answer_bits, check_bits}
 use Rattle.session_answers.specs.Left.{Leaves}
@@ -17,12 +19,24 @@ use Rattle.session_answers.specs.Recorded.{recorded_check}
 use Rattle.session_answers.proofs.Left.{left_done, left_refused}
 
 module _ {E : Type 0} {refusal : E → Check} {check : Check} {bytes lent left : List ℕ} where
-  pub leaves_lent : {e : E} → Answers refusal (tt {0}) check (Err e) → left ≡ lent → Leaves refusal check bytes lent (Err e) left
-  leaves_lent answers same =
-      record { answers = answers.refuses; leaves = same ∙ sym (left_refused check bytes lent (refuses answers refl)) }
+  -- r returns the refusal e, itself or by a `?`
+  pub leaves_lent : {e : E} {r : Result (Unit {0}) E} → Answers refusal (tt {0}) check (Err e) → IsErrAnd r (λ x. x ≡ e) → left ≡ lent
+      → Leaves refusal check bytes lent r left
+  leaves_lent {r} answers is same =
+      let exit = err_from_is_err_and r is in
+      record {
+        answers = ap (answered refusal) exit.1 ∙ ap refusal exit.2 ∙ answers.refuses;
+        leaves = same ∙ sym (left_refused check bytes lent (refuses answers refl));
+      }
 
   pub leaves_done : check ≡ pass → left ≡ bytes → Leaves refusal check bytes lent (Ok (tt {0})) left
   leaves_done passed same = record { answers = sym passed; leaves = same ∙ sym (left_done check bytes lent passed) }
+
+-- a test that cannot pass refuses
+pub unless_fails : (test : Bool) (number returned : ℕ) → (test ≡ true → ⊥) → unless test number returned ≡ fail number returned
+unfolding unless
+unless_fails true number returned d = absurd (d refl)
+unless_fails false number returned d = refl
 
 -- a check that refuses by numbers from 40 on
 abbrev pub Numbered : Check → Type 0
