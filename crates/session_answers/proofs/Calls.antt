@@ -1,32 +1,42 @@
--- A call that answers by an enum, from its check's answer: refused, it hands back the refusal's bits and leaves the bytes lent; else it
--- hands back 0, and the new bytes. The bits 0 are those of a call that was done.
+-- A call on lent bytes, from its check: refused, it leaves the bytes lent, and done, it leaves the new ones. The bits 0 are those of a
+-- call that was done.
 use Prim.Native.Nat.{ℕ, ◌≤◌}
 use mathlib.Core.Path.{◌≡◌, refl, sym, ◌∙◌, ap}
-use mathlib.Core.Bool.{Bool}
+use mathlib.Core.Bool.{Bool, true, false}
 use mathlib.Core.List.{List}
 use mathlib.Core.Logic.{⊎_elim}
 use native.Mathlib.Omega.{arith}
+use Rattle.std.specs.Prelude.{Result, Ok, Err}
+use Rattle.std.specs.Result.{IsErrAnd}
+use Rattle.std.proofs.lemmas.Result.{err_from_is_err_and}
 use Rattle.model.specs.Refusal.{Check, pass, fail, first, unless, first_below}
 use Rattle.model.proofs.Refusals.{first_fail, unless_false, below_fail}
-use Rattle.file_lines.specs.Answer.{Answers}
-use Rattle.file_lines.proofs.Stages.{passes, refuses}
+use Rattle.file_lines.specs.Answer.{answered, Answers}
+use Rattle.file_lines.proofs.Stages.{refuses}
 use Rattle.session_answers.specs.Answers.{answer_bits, check_bits}
-use Rattle.session_answers.specs.Left.{left_after}
+use Rattle.session_answers.specs.Left.{Leaves}
 use Rattle.session_answers.specs.Recorded.{recorded_check}
 use Rattle.session_answers.proofs.Left.{left_done, left_refused}
 
-module _ {A : Type 0} {refusal : A → Check} {x : A} {check : Check} {r : A} (answers : Answers refusal x check r) (bytes lent : List ℕ) where
-  pub call_refused : (r ≡ x → ⊥) → {bits : ℕ} → bits ≡ check_bits (refusal r) → (bits ≡ check_bits check) × (lent ≡ left_after check bytes lent)
-  call_refused other e = (
-    e ∙ ap check_bits answers.refuses,
-    sym (left_refused check bytes lent (λ p. refuses answers other (answers.refuses ∙ p))),
-  )
+module _ {E : Type 0} {refusal : E → Check} {check : Check} {bytes lent left : List ℕ} where
+  -- r returns the refusal e, itself or by a `?`
+  pub leaves_lent : {e : E} {r : Result (Unit {0}) E} → Answers refusal (tt {0}) check (Err e) → IsErrAnd r (λ x. x ≡ e) → left ≡ lent
+      → Leaves refusal check bytes lent r left
+  leaves_lent {r} answers is same =
+      let exit = err_from_is_err_and r is in
+      record {
+        answers = ap (answered refusal) exit.1 ∙ ap refusal exit.2 ∙ answers.refuses;
+        leaves = same ∙ sym (left_refused check bytes lent (refuses answers refl));
+      }
 
-  pub call_done : r ≡ x → refusal x ≡ pass → {left : List ℕ} → left ≡ bytes → (0 ≡ check_bits check) × (left ≡ left_after check bytes lent)
-  unfolding check_bits answer_bits
-  call_done is accepts e =
-      let p = passes answers is accepts in
-      (rw p, e ∙ sym (left_done check bytes lent p))
+  pub leaves_done : check ≡ pass → left ≡ bytes → Leaves refusal check bytes lent (Ok (tt {0})) left
+  leaves_done passed same = record { answers = sym passed; leaves = same ∙ sym (left_done check bytes lent passed) }
+
+-- a test that cannot pass refuses
+pub unless_fails : (test : Bool) (number returned : ℕ) → (test ≡ true → ⊥) → unless test number returned ≡ fail number returned
+unfolding unless
+unless_fails true number returned d = absurd (d refl)
+unless_fails false number returned d = refl
 
 -- a check that refuses by numbers from 40 on
 abbrev pub Numbered : Check → Type 0

@@ -1,21 +1,24 @@
--- The answers of the calls: number and returned value of each case (01, Refusals), and the 64 bits that C gets (docs/PANEL.md).
-use Rattle.std.specs.Prelude.{ℕ, ◌+◌, ◌*◌, ◌^◌}
+-- The answers of the calls, and the 64 bits that C gets (docs/PANEL.md).
+use Rattle.std.specs.Prelude.{ℕ, ◌+◌, ◌*◌, ◌^◌, Result, Ok, Err}
 use Rattle.logic.specs.Test.{one}
 use Rattle.model.specs.Refusal.{Check, pass, fail}
 use Rattle.model.specs.Session.{Answer, refused, done, value, ran}
-use Rattle.session_answers.specs.declared.CallAnswer.{CallAnswer}
-use Rattle.session_answers.specs.declared.CallAnswer.TheVariants.{WrongLength, OutOfRange, NoSuchSignal, NoSuchValue, TooManyCycles, Done, Value, Ran}
+use Rattle.session_answers.specs.Refusals.{call_refusal}
+use Rattle.session_answers.specs.declared.CallRefusal.{CallRefusal}
+use Rattle.session_answers.specs.declared.Reply.{Reply}
+use Rattle.session_answers.specs.declared.Reply.TheVariants.{Done, Value, Ran}
 
--- 40 and 44 return 0, 41 the signal, 42 the value given, 43 the cycles finished
-abbrev pub call_answer : CallAnswer → Answer
-call_answer WrongLength = refused 40 0
-call_answer OutOfRange = refused 44 0
-call_answer (NoSuchSignal signal) = refused 41 signal
-call_answer (NoSuchValue given) = refused 42 given
-call_answer (TooManyCycles finished) = refused 43 finished.0
-call_answer Done = done
-call_answer (Value v) = value v
-call_answer (Ran count stopped) = ran count.0 stopped
+-- what the opening and the check of the files answer: done where the check passes, else its refusal
+abbrev pub check_answer : Check → Answer
+check_answer pass = done
+check_answer (fail number returned) = refused number returned
+
+-- what a call of the session answers: its refusal, or what it replies
+abbrev pub call_answer : Result Reply CallRefusal → Answer
+call_answer (Err refusal) = check_answer (call_refusal refusal)
+call_answer (Ok Done) = done
+call_answer (Ok (Value v)) = value v
+call_answer (Ok (Ran count stopped)) = ran count.0 stopped
 
 -- Bits 56 to 63 have the refusal's number, 0 where the call was not refused; bits 0 to 31 the returned value. A run has the cycles done
 -- in bits 0 to 15 and stopped in bit 16.
@@ -25,7 +28,5 @@ answer_bits done = 0
 answer_bits (value v) = v
 answer_bits (ran count stopped) = count + 65536 * one stopped
 
--- what the opening and the check of the files answer: done where the check passes, else its refusal
 unfoldable pub check_bits : Check → ℕ
-check_bits pass = answer_bits done
-check_bits (fail number returned) = answer_bits (refused number returned)
+check_bits check = answer_bits (check_answer check)

@@ -3,56 +3,86 @@
 #![tactic(auto)]
 
 ghost use Rattle.std.specs.Prelude.{◌≡◌};
-ghost use Rattle.model.specs.Session.{refused, ran};
-ghost use Rattle.session_answers.specs.Answers.{call_answer, answer_bits};
+ghost use Rattle.model.specs.Session.{refused};
+ghost use Rattle.file_lines.specs.Answer.{answered};
+ghost use Rattle.session_answers.specs.Answers.{call_answer, answer_bits, check_bits};
 
 use clock::Cycle;
+use file_lines::Refusal;
 
-// What a call answers: refused (01, Refusals), done, the value read, or the cycles of a run and whether it stopped.
+// The refusals of the session's calls (01, Refusals): 40, 44, 41, 42 and 43, with what they return.
 #[derive(Clone, Copy)]
-pub enum CallAnswer {
+pub enum CallRefusal {
     WrongLength,
     OutOfRange,
     NoSuchSignal(u32),
     NoSuchValue(u32),
     TooManyCycles(Cycle),
+}
+
+impl Refusal for CallRefusal {
+    ghost use Rattle.session_answers.specs.Refusals.{call_refusal};
+
+    ghost refusal = { call_refusal };
+
+    fn told(self) -> (u8, u32) {
+        match self {
+            CallRefusal::WrongLength => (40, 0),
+            CallRefusal::OutOfRange => (44, 0),
+            CallRefusal::NoSuchSignal(signal) => (41, signal),
+            CallRefusal::NoSuchValue(given) => (42, given),
+            CallRefusal::TooManyCycles(finished) => (43, u32::from(finished.0)),
+        }
+    }
+}
+
+// What a call replies that is not refused: that it is done, the value read, or the cycles of a run and whether it stopped.
+#[derive(Clone, Copy)]
+pub enum Reply {
     Done,
     Value(u8),
     Ran(Cycle, bool),
 }
 
+pub type CallAnswer = Result<Reply, CallRefusal>;
+
 // A refusal's number in bits 56 to 63, and what it returns in bits 0 to 31.
+#[tactic(auto, unfolding(crate::specs::Answers::answer_bits))]
 pub fn refusal_bits(number: u8, returned: u32) -> u64
     ensures { result ≡ answer_bits (refused number returned) }
 {
-    72057594037927936 * (number as u64) + (returned as u64)
+    (u64::from(number) << 56) + u64::from(returned)
 }
 
-// The cycles done in bits 0 to 15, and stopped in bit 16.
-fn run_bits(count: Cycle, stopped: bool) -> u64
-    ensures { result ≡ answer_bits (ran count.0 stopped) }
+// The bits of a refusal of any kind.
+#[tactic(auto, unfolding(crate::specs::Answers::check_bits))]
+fn refused_bits<R: Refusal>(refusal: R) -> u64
+    ensures { result ≡ check_bits (R.refusal refusal) }
 {
-    let done = count.0;
-    if stopped {
-        return done as u64 + 65536;
-    }
-    done as u64
+    let (number, returned) = refusal.told();
+    refusal_bits(number, returned)
 }
 
-impl CallAnswer {
-    // The 64 bits that C gets.
-    pub fn bits(self) -> u64
-        ensures { result ≡ answer_bits (call_answer self) }
-    {
-        match self {
-            CallAnswer::WrongLength => refusal_bits(40, 0),
-            CallAnswer::OutOfRange => refusal_bits(44, 0),
-            CallAnswer::NoSuchSignal(signal) => refusal_bits(41, signal),
-            CallAnswer::NoSuchValue(given) => refusal_bits(42, given),
-            CallAnswer::TooManyCycles(finished) => refusal_bits(43, finished.0 as u32),
-            CallAnswer::Done => 0,
-            CallAnswer::Value(v) => v as u64,
-            CallAnswer::Ran(count, stopped) => run_bits(count, stopped),
-        }
+// The 64 bits of a check's answer: 0 where it passes, else its refusal.
+#[tactic(auto, unfolding(crate::specs::Answers::check_bits, crate::specs::Answers::answer_bits))]
+pub fn check_bits<R: Refusal>(answer: Result<(), R>) -> u64
+    ensures { result ≡ check_bits (answered R.refusal answer) }
+{
+    match answer {
+        Ok(()) => 0,
+        Err(refusal) => refused_bits(refusal),
+    }
+}
+
+// The 64 bits of a session call's answer. A run has its cycles in bits 0 to 15, and in bit 16 whether it stopped.
+#[tactic(auto, unfolding(crate::specs::Answers::check_bits, crate::specs::Answers::answer_bits))]
+pub fn answer_bits(answer: CallAnswer) -> u64
+    ensures { result ≡ answer_bits (call_answer answer) }
+{
+    match answer {
+        Ok(Reply::Done) => 0,
+        Ok(Reply::Value(value)) => u64::from(value),
+        Ok(Reply::Ran(count, stopped)) => u64::from(count.0) + 65536 * u64::from(stopped),
+        Err(refusal) => refused_bits(refusal),
     }
 }

@@ -1,5 +1,5 @@
 -- Laws of a number and its bits.
-use Prim.Native.Nat.{ℕ, zero, suc, ◌+◌, ◌*◌, ◌/◌, ◌%◌, ◌^◌, ◌≤◌, ◌<◌}
+use Prim.Native.Nat.{ℕ, zero, suc, ◌+◌, ◌-◌, ◌*◌, ◌/◌, ◌%◌, ◌^◌, ◌≤◌, ◌<◌}
 use mathlib.Core.Path.{◌≡◌, refl, sym, ◌∙◌, ap, ap₂}
 use native.Mathlib.Omega.{arith}
 use native.Mathlib.Nat.{div-one, div-div-eq-div-mul, pow-succ', pow-le-pow_right}
@@ -54,6 +54,11 @@ bits_more f i k =
     let lowest : f (i + 0) ≡ f i = ap f (omega arith) in
     let others : bits (λ j. f (i + suc j)) k ≡ bits (λ j. f (i + 1 + j)) k = bits_same _ _ k (λ j l. ap f (omega arith)) in
     omega arith
+
+pub bits_whole : (f : ℕ → ℕ) (c n : ℕ) → c ≡ 0 → bits (λ j. f (c + j)) (n - c) ≡ bits f n
+bits_whole f c n e =
+    let all : n - c ≡ n = omega arith in
+    bits_same _ _ (n - c) (λ j low. let here : c + j ≡ j = omega arith in ap f here) ∙ ap (bits f) all
 
 pub bits_below : (f : ℕ → ℕ) → ((i : ℕ) → f i < 2) → (k : ℕ) → bits f k < 2 ^ k
 unfolding bits

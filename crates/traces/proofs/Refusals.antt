@@ -1,62 +1,77 @@
--- Laws of the refusals: each length and the count decide as the code asks for them, and what a check that passed tells.
+-- Laws of the refusals: what the two lengths decide, and what a check that passed tells.
 use Prim.Native.Nat.{ℕ, ◌≤◌, ◌<◌}
-use mathlib.Core.Path.{◌≡◌}
+use mathlib.Core.Path.{◌≡◌, refl, ◌∙◌}
+use mathlib.Core.Bool.{true}
 use mathlib.Core.List.{List}
-use native.Mathlib.Omega.{arith}
 use lib.ListN.{length, get_or}
-use borrow.Author.Tests.{eqb-true, ne_eqb, le-leb, lt-leb, leb-true}
+use borrow.Author.Tests.{eqb-true, eq-eqb, le-leb, lt-leb, leb-true}
+use native.Mathlib.Omega.{arith}
 use Rattle.logic.specs.Test.{◌and◌}
-use Rattle.logic.proofs.Tests.{and_left, and_right}
+use mathlib.Core.Logic.{◌⊎◌, ⊎_elim}
+use Rattle.logic.proofs.Tests.{and_true, and_left, and_right}
+use Rattle.std.specs.Prelude.{Result, Ok, Err}
 use Rattle.model.specs.Refusal.{Check, pass, fail, first, unless}
 use Rattle.model.specs.Session.{same_lengths}
-use Rattle.model.proofs.Refusals.{first_left, first_right, unless_true, below_pass}
+use Rattle.model.proofs.Refusals.{first_left, first_stays, first_second, unless_true, unless_pass, below_pass}
+use Rattle.file_lines.specs.Answer.{Answers}
+use Rattle.file_lines.proofs.Stages.{refused, passes, after, stops}
 use Rattle.session_answers.specs.Recorded.{recorded_check}
 use Rattle.session_answers.proofs.Recorded.{recorded_legal}
+use Rattle.session_answers.proofs.Calls.{unless_fails}
 use Rattle.traces.specs.Turned.{most_cycles, values_length, block_length}
-use Rattle.traces.specs.Checks.{turn_lent, turn_fixed, count_right, sizes_check, values_check}
+use Rattle.traces.specs.Checks.{turn_lent, turn_fixed, count_right, count_check, sizes_check, values_check}
+use Rattle.traces.specs.Answer.{turn_refusal}
+use Rattle.traces.specs.declared.TurnRefusal.{TurnRefusal}
+use Rattle.traces.specs.declared.TurnRefusal.TheVariants.{WrongLength}
 
-module _ (values block : List ℕ) (count : ℕ) where
-  pub wrong_values : (length values ≡ values_length → ⊥) → sizes_check values block count ≡ fail 40 0
-  unfolding sizes_check same_lengths first unless ◌and◌
-  wrong_values d = rw (ne_eqb (length values) values_length d)
-
-  -- what is known of buffers and count that are right
+module _ (values block : List ℕ) where
+  -- buffers of their fixed lengths
   pub record Sizes : Type 0 where
     pub values_size : length values ≡ values_length
     pub block_size : length block ≡ block_length
-    pub count_low : 1 ≤ count
-    pub count_high : count ≤ most_cycles
 
-  module _ (v : length values ≡ values_length) where
-    pub wrong_block : (length block ≡ block_length → ⊥) → sizes_check values block count ≡ fail 40 0
-    unfolding sizes_check same_lengths first unless ◌and◌
-    wrong_block d = rw (v, ne_eqb (length block) block_length d)
+  sizes : same_lengths (turn_lent values block) turn_fixed ≡ true → Sizes
+  unfolding same_lengths
+  sizes e = record { values_size = eqb-true _ _ (and_left _ _ e); block_size = eqb-true _ _ (and_left _ _ (and_right _ _ e)) }
 
-    module _ (b : length block ≡ block_length) where
-      pub no_count : count ≡ 0 → sizes_check values block count ≡ fail 52 0
-      unfolding sizes_check same_lengths count_right first unless ◌and◌
-      no_count z = rw (v, b, z)
+  module _ (count : ℕ) where
+    -- a wrong length is refused, whatever the checks after it say
+    pub sizes_wrong : (Sizes → ⊥) → (rest : Check) → Answers turn_refusal (tt {0}) (first (sizes_check values block count) rest) (Err WrongLength)
+    unfolding sizes_check
+    sizes_wrong d rest = refused refl (first_stays _ _ (first_stays _ _ (unless_fails _ 40 0 (λ e. d (sizes e)))))
 
-      pub high_count : most_cycles < count → sizes_check values block count ≡ fail 52 0
-      unfolding sizes_check same_lengths count_right first unless ◌and◌
-      high_count h = rw (v, b, le-leb 1 count (omega arith), lt-leb count most_cycles h)
+    -- right lengths leave the answer to the count
+    pub sizes_right : Sizes → sizes_check values block count ≡ count_check count
+    unfolding sizes_check same_lengths
+    sizes_right s =
+        first_second _ _ (unless_pass _ 40 0 (and_true _ _ (eq-eqb _ _ s.values_size) (and_true _ _ (eq-eqb _ _ s.block_size) refl)))
 
-      pub sizes_pass : (count ≡ 0 → ⊥) → count ≤ most_cycles → sizes_check values block count ≡ pass
-      unfolding sizes_check same_lengths count_right first unless ◌and◌
-      sizes_pass some h = rw (v, b, le-leb 1 count (omega arith), le-leb count most_cycles h)
+    module _ (sized : Sizes) {n : ℕ} {r : Result ℕ TurnRefusal} (counted : Answers turn_refusal n (count_check count) r) where
+      pub count_stops : {e : TurnRefusal} → r ≡ Err e → (rest : Check) → Answers turn_refusal (tt {0}) (first (sizes_check values block count) rest) (Err e)
+      count_stops is rest = rw (sizes_right sized) (stops counted is rest)
 
-  -- the check that passed tells it
-  pub sizes_right : sizes_check values block count ≡ pass → Sizes
-  unfolding sizes_check same_lengths count_right
-  sizes_right e =
-      let lengths = unless_true (same_lengths (turn_lent values block) turn_fixed) 40 0 (first_left _ _ e) in
-      let counted = unless_true (count_right count) 52 0 (first_right _ _ e) in
-      record {
-        values_size = eqb-true _ _ (and_left _ _ lengths);
-        block_size = eqb-true _ _ (and_left _ _ (and_right _ _ lengths));
-        count_low = leb-true 1 count (and_left _ _ counted);
-        count_high = leb-true count most_cycles (and_right _ _ counted);
-      }
+      pub count_passes : {m : ℕ} → r ≡ Ok m → {rest : Check} {s : Result (Unit {0}) TurnRefusal} → Answers turn_refusal (tt {0}) rest s
+          → Answers turn_refusal (tt {0}) (first (sizes_check values block count) rest) s
+      count_passes is answers = after (sizes_right sized ∙ passes counted is) answers
+
+    pub sizes_of : sizes_check values block count ≡ pass → Sizes
+    unfolding sizes_check
+    sizes_of e = sizes (unless_true _ 40 0 (first_left _ _ e))
+
+module _ (count : ℕ) where
+  pub count_wrong : (count ≡ 0) ⊎ ((count ≡ 0 → ⊥) × (most_cycles < count)) → count_check count ≡ fail 52 0
+  unfolding count_check count_right ◌and◌ unless
+  count_wrong wrong =
+      ⊎_elim (λ z. rw z) (λ h. rw (le-leb 1 count (omega (arith, h.1)), lt-leb count most_cycles h.1)) wrong
+
+  pub count_pass : (count ≡ 0 → ⊥) → count ≤ most_cycles → count_check count ≡ pass
+  unfolding count_check count_right
+  count_pass some few = unless_pass _ 52 0 (and_true _ _ (le-leb 1 count (omega arith)) (le-leb count most_cycles few))
+
+  -- a count that passed
+  pub count_high : count_check count ≡ pass → count ≤ most_cycles
+  unfolding count_check count_right
+  count_high e = leb-true count most_cycles (and_right _ _ (unless_true _ 52 0 e))
 
 module _ (values : List ℕ) where
   abbrev pub judged : ℕ → Check

@@ -4,13 +4,16 @@
 #![tactic(auto)]
 
 ghost use Rattle.std.specs.Prelude.{◌≡◌, ◌+◌, ◌*◌, ◌%◌, ◌<◌, ◌≤◌, ltb, length, get_or};
-ghost use Rattle.std.specs.Prelude.{if◌then◌else◌};
+ghost use Rattle.file_lines.specs.Answer.{Answers};
 ghost use Rattle.session_answers.specs.Answers.{check_bits};
-ghost use Rattle.session_answers.specs.Left.{left_after};
+ghost use Rattle.session_answers.specs.Left.{left_after, Leaves};
 ghost use Rattle.traces.specs.Bits.{bit, bits};
-ghost use Rattle.traces.specs.Turned.{most_cycles, values_length, block_length, turned, block_value, value_back, turned_back, unused_clear};
-ghost use Rattle.traces.specs.Checks.{sizes_check, values_check, turn_check, turn_back_check};
-ghost use Rattle.traces.specs.Answer.{turn_refusal, TurnAnswers};
+ghost use Rattle.traces.specs.Turned.{most_cycles, values_length, block_length, turned, block_value, value_back, turned_back};
+ghost use Rattle.traces.specs.Checks.{count_check, values_check, unused_check, turn_check, turn_back_check};
+ghost use Rattle.traces.specs.Answer.{turn_refusal};
+
+use file_lines::Refusal;
+use std::array::TryFromSliceError;
 
 // The lengths of the two buffers, a byte and two bits for each cycle, and the most cycles of a block.
 const VALUES_BYTES: usize = 64;
@@ -19,150 +22,65 @@ const BLOCK_BYTES: usize = 16;
 
 const MOST_CYCLES: u32 = 64;
 
-// What a call answers: done, or refused by 40, 52 or 42.
-#[derive(Clone, Copy)]
-pub enum TurnAnswer {
-    Done,
+// The refusals of both calls: 40, 52 for a count or an unused bit, 42.
+#[derive(Clone, Copy, Debug, PartialEq, Eq)]
+pub enum TurnRefusal {
     WrongLength,
     WrongCount,
     UnusedBit,
     NoSuchValue(u8),
 }
 
-impl TurnAnswer {
-    // The 64 bits that C gets.
-    pub fn bits(self) -> u64
-        ensures { result ≡ check_bits (turn_refusal self) }
-    {
+impl Refusal for TurnRefusal {
+    ghost use Rattle.traces.specs.Answer.{turn_refusal};
+
+    ghost refusal = { turn_refusal };
+
+    fn told(self) -> (u8, u32) {
         match self {
-            TurnAnswer::Done => 0,
-            TurnAnswer::WrongLength => session_answers::refusal_bits(40, 0),
-            TurnAnswer::WrongCount => session_answers::refusal_bits(52, 0),
-            TurnAnswer::UnusedBit => session_answers::refusal_bits(52, 0),
-            TurnAnswer::NoSuchValue(value) => session_answers::refusal_bits(42, value as u32),
+            TurnRefusal::WrongLength => (40, 0),
+            TurnRefusal::WrongCount | TurnRefusal::UnusedBit => (52, 0),
+            TurnRefusal::NoSuchValue(value) => (42, u32::from(value)),
         }
     }
 }
 
-// What both calls judge first: the two lengths, then the count.
-fn check_sizes(values: &[u8], block: &[u8], count: u32) -> TurnAnswer
-    ensures { TurnAnswers (sizes_check values.now block.now count) result }
+// A buffer lent with another length than its fixed one.
+impl From<TryFromSliceError> for TurnRefusal {
+    ghost use Rattle.traces.specs.declared.TurnRefusal.TheVariants.{WrongLength};
+
+    ghost from_gives = { λ _ refusal. refusal ≡ WrongLength };
+
+    fn from(_error: TryFromSliceError) -> TurnRefusal {
+        TurnRefusal::WrongLength
+    }
+}
+
+// The cycles that a block is to have: 1 to 64.
+fn cycles_of(count: u32) -> Result<usize, TurnRefusal>
+    ensures { Answers turn_refusal count (count_check count) result }
 {
-    if values.len() != VALUES_BYTES {
-        return TurnAnswer::WrongLength;
+    if count == 0 || MOST_CYCLES < count {
+        return Err(TurnRefusal::WrongCount);
     }
-    if block.len() != BLOCK_BYTES {
-        return TurnAnswer::WrongLength;
-    }
-    if count == 0 {
-        return TurnAnswer::WrongCount;
-    }
-    if MOST_CYCLES < count {
-        return TurnAnswer::WrongCount;
-    }
-    TurnAnswer::Done
+    Ok(count as usize)
 }
 
 // The first value above 3 within the count.
-fn check_values(values: &[u8], count: usize) -> TurnAnswer
-    requires { (length values.now ≡ values_length) × (count ≤ most_cycles) }
-    ensures { TurnAnswers (values_check values.now count) result }
+fn check_values(values: &[u8; VALUES_BYTES], count: usize) -> Result<(), TurnRefusal>
+    requires { count ≤ most_cycles }
+    ensures { Answers turn_refusal (tt {0}) (values_check values.now count) result }
 {
-    let mut c: usize = 0;
-    while c < count {
-        let value = values[c];
+    for &value in &values[..count] {
         if 3 < value {
-            return TurnAnswer::NoSuchValue(value);
+            return Err(TurnRefusal::NoSuchValue(value));
         }
-        c += 1;
     }
-    TurnAnswer::Done
-}
-
-// The low bit of a value, or its high bit.
-fn value_bit(value: u8, half: usize) -> u64
-    requires { half < 2 }
-    ensures { (result ≡ bit value half) × (result < 2) }
-{
-    if half == 0 {
-        return (value % 2) as u64;
-    }
-    (value / 2 % 2) as u64
-}
-
-// One half of a block as a number: the low bits of the values within the count, or the high ones, the earliest cycle lowest. From the
-// last cycle to the first, what is there is doubled and the cycle's bit is added.
-fn turned_half(values: &[u8], count: usize, half: usize) -> u64
-    requires { (length values.now ≡ values_length) × (count ≤ most_cycles) × (half < 2) }
-    ensures { result ≡ bits (λ c. bit (get_or values.now c 0) half) count }
-{
-    let mut number: u64 = 0;
-    let mut c = count;
-    while 0 < c {
-        c -= 1;
-        number = 2 * number + value_bit(values[c], half);
-    }
-    number
-}
-
-// Byte a of a number, its lowest being byte 0.
-fn byte_of(number: u64, a: usize) -> u8
-    requires { a < 8 }
-    ensures { result ≡ bits (λ i. bit number (8 * a + i)) 8 }
-{
-    ((number >> (8 * a)) % 256) as u8
-}
-
-// Byte b of a block, from its halves.
-fn block_byte(low: u64, high: u64, b: usize) -> u8
-    requires { b < block_length }
-    ensures { result ≡ bits (λ i. bit (if ltb b 8 then low else high) (8 * (b % 8) + i)) 8 }
-{
-    if b < 8 {
-        return byte_of(low, b);
-    }
-    byte_of(high, b - 8)
-}
-
-// The block of the values within the count.
-fn turn_all(values: &[u8], count: usize, block: &mut [u8])
-    requires { (length values.now ≡ values_length) × (count ≤ most_cycles) × (length block.old ≡ block_length) }
-    ensures { block.new ≡ turned values.now count }
-{
-    let low = turned_half(values, count, 0);
-    let high = turned_half(values, count, 1);
-    let mut b: usize = 0;
-    while b < BLOCK_BYTES {
-        block[b] = block_byte(low, high, b);
-        b += 1;
-    }
-}
-
-// The refusals of turning, in their order.
-fn check_turn(values: &[u8], block: &[u8], count: u32) -> TurnAnswer
-    ensures { TurnAnswers (turn_check values.now block.now count) result }
-{
-    let sizes = check_sizes(values, block, count);
-    let TurnAnswer::Done = sizes else {
-        return sizes;
-    };
-    check_values(values, count as usize)
-}
-
-// Turns the values of one signal into a block. Refused by 40, 52, 42, and then no byte of the block changes.
-pub fn turn(values: &[u8], block: &mut [u8], count: u32) -> u64
-    ensures answer { result ≡ check_bits (turn_check values.now block.old count) }
-    ensures block { block.new ≡ left_after (turn_check values.now block.old count) (turned values.now count) block.old }
-{
-    let answer = check_turn(values, block, count);
-    let TurnAnswer::Done = answer else {
-        return answer.bits();
-    };
-    turn_all(values, count as usize, block);
-    0
+    Ok(())
 }
 
 // A bit of a byte.
+#[tactic(auto, using(crate::proofs::Bits::bit_weight))]
 fn bit_at(byte: u8, i: usize) -> u8
     requires { i < 8 }
     ensures { (result ≡ bit byte i) × (result < 2) }
@@ -170,9 +88,57 @@ fn bit_at(byte: u8, i: usize) -> u8
     (byte >> i) % 2
 }
 
+// One half of a block as a number: the low bits of the values within the count, or the high ones, the earliest cycle lowest. From the
+// last cycle to the first, what is there is doubled and the cycle's bit is added: shifted to its place, each bit takes longer.
+fn turned_half(values: &[u8; VALUES_BYTES], count: usize, half: usize) -> u64
+    requires { (count ≤ most_cycles) × (half < 2) }
+    ensures { result ≡ bits (λ c. bit (get_or values.now c 0) half) count }
+{
+    let mut number: u64 = 0;
+    for c in (0..count).rev() {
+        number = 2 * number + u64::from(bit_at(values[c], half));
+    }
+    number
+}
+
+// The block of the values within the count.
+fn turn_all(values: &[u8; VALUES_BYTES], count: usize, block: &mut [u8])
+    requires { (count ≤ most_cycles) × (length block.old ≡ block_length) }
+    ensures { block.new ≡ turned values.now count }
+{
+    let low = turned_half(values, count, 0);
+    let high = turned_half(values, count, 1);
+    block[..8].copy_from_slice(&low.to_le_bytes());
+    block[8..BLOCK_BYTES].copy_from_slice(&high.to_le_bytes());
+}
+
+// Turns the values into a block, or refuses and changes no byte of it.
+fn turn_checked(values: &[u8], block: &mut [u8], count: u32) -> Result<(), TurnRefusal>
+    ensures { Leaves turn_refusal (turn_check values.now block.old count) (turned values.now count) block.old result block.new }
+{
+    let values: &[u8; VALUES_BYTES] = values.try_into()?;
+    // The buffer that is written stays a slice: no contract of the library says that a `try_into` to a `&mut` array leaves its bytes.
+    if block.len() != BLOCK_BYTES {
+        return Err(TurnRefusal::WrongLength);
+    }
+    let count = cycles_of(count)?;
+    check_values(values, count)?;
+    turn_all(values, count, block);
+    Ok(())
+}
+
+// Turns the values of one signal into a block. Refused by 40, 52, 42, and then no byte of the block changes.
+pub fn turn(values: &[u8], block: &mut [u8], count: u32) -> u64
+    ensures answer { result ≡ check_bits (turn_check values.now block.old count) }
+    ensures block { block.new ≡ left_after (turn_check values.now block.old count) (turned values.now count) block.old }
+{
+    session_answers::check_bits(turn_checked(values, block, count))
+}
+
 // The value that a block has for a cycle.
-fn block_value(block: &[u8], cycle: usize) -> u8
-    requires { (length block.now ≡ block_length) × (cycle < values_length) }
+#[tactic(auto, unfolding(crate::specs::Turned::block_value))]
+fn block_value(block: &[u8; BLOCK_BYTES], cycle: usize) -> u8
+    requires { cycle < values_length }
     ensures { result ≡ block_value block.now cycle }
 {
     let low = bit_at(block[cycle / 8], cycle % 8);
@@ -180,24 +146,33 @@ fn block_value(block: &[u8], cycle: usize) -> u8
     low + 2 * high
 }
 
-// No bit past the count is set.
-fn unused_clear(block: &[u8], count: usize) -> bool
-    requires { (length block.now ≡ block_length) × (count ≤ most_cycles) }
-    ensures { result ≡ unused_clear block.now count }
+// No bit past the count may be set.
+fn check_unused(block: &[u8; BLOCK_BYTES], count: usize) -> Result<(), TurnRefusal>
+    requires { count ≤ most_cycles }
+    ensures { Answers turn_refusal (tt {0}) (unused_check block.now count) result }
 {
-    let mut c = count;
-    while c < VALUES_BYTES {
+    for c in count..VALUES_BYTES {
         if block_value(block, c) != 0 {
-            return false;
+            return Err(TurnRefusal::UnusedBit);
         }
-        c += 1;
     }
-    true
+    Ok(())
+}
+
+// All values of a block: those of the cycles within the count, and 0 past it.
+fn turn_back_all(block: &[u8; BLOCK_BYTES], count: usize, values: &mut [u8])
+    requires { (count ≤ most_cycles) × (length values.old ≡ values_length) }
+    ensures { values.new ≡ turned_back block.now count }
+{
+    for cycle in 0..VALUES_BYTES {
+        values[cycle] = value_back(block, count, cycle);
+    }
 }
 
 // The value of a cycle within the count, and 0 past it.
-fn value_back(block: &[u8], count: usize, cycle: usize) -> u8
-    requires { (length block.now ≡ block_length) × (cycle < values_length) }
+#[tactic(auto, unfolding(crate::specs::Turned::value_back))]
+fn value_back(block: &[u8; BLOCK_BYTES], count: usize, cycle: usize) -> u8
+    requires { cycle < values_length }
     ensures { result ≡ value_back block.now count cycle }
 {
     if cycle < count {
@@ -206,30 +181,18 @@ fn value_back(block: &[u8], count: usize, cycle: usize) -> u8
     0
 }
 
-// All values of a block.
-fn turn_back_all(block: &[u8], count: usize, values: &mut [u8])
-    requires { (length block.now ≡ block_length) × (count ≤ most_cycles) × (length values.old ≡ values_length) }
-    ensures { values.new ≡ turned_back block.now count }
+// Turns a block back into the values, or refuses and changes no byte of them.
+fn turn_back_checked(block: &[u8], values: &mut [u8], count: u32) -> Result<(), TurnRefusal>
+    ensures { Leaves turn_refusal (turn_back_check block.now values.old count) (turned_back block.now count) values.old result values.new }
 {
-    let mut cycle: usize = 0;
-    while cycle < VALUES_BYTES {
-        values[cycle] = value_back(block, count, cycle);
-        cycle += 1;
+    let block: &[u8; BLOCK_BYTES] = block.try_into()?;
+    if values.len() != VALUES_BYTES {
+        return Err(TurnRefusal::WrongLength);
     }
-}
-
-// The refusals of turning back, in their order.
-fn check_turn_back(block: &[u8], values: &[u8], count: u32) -> TurnAnswer
-    ensures { TurnAnswers (turn_back_check block.now values.now count) result }
-{
-    let sizes = check_sizes(values, block, count);
-    let TurnAnswer::Done = sizes else {
-        return sizes;
-    };
-    if !unused_clear(block, count as usize) {
-        return TurnAnswer::UnusedBit;
-    }
-    TurnAnswer::Done
+    let count = cycles_of(count)?;
+    check_unused(block, count)?;
+    turn_back_all(block, count, values);
+    Ok(())
 }
 
 // Turns a block back into the values of one signal. Refused by 40, 52, and then no byte of the values changes.
@@ -237,10 +200,5 @@ pub fn turn_back(block: &[u8], values: &mut [u8], count: u32) -> u64
     ensures answer { result ≡ check_bits (turn_back_check block.now values.old count) }
     ensures values { values.new ≡ left_after (turn_back_check block.now values.old count) (turned_back block.now count) values.old }
 {
-    let answer = check_turn_back(block, values, count);
-    let TurnAnswer::Done = answer else {
-        return answer.bits();
-    };
-    turn_back_all(block, count as usize, values);
-    0
+    session_answers::check_bits(turn_back_checked(block, values, count))
 }

@@ -1,12 +1,8 @@
--- The invariant: the values before cycle c are legal.
-use Prim.Native.Nat.{◌≤◌, ◌-◌}
+-- The invariant: the values before this one are legal.
 use mathlib.Core.Path.{◌≡◌}
 use Rattle.model.specs.Refusal.{pass, first_below}
 use Rattle.traces.proofs.Refusals.{judged}
 use Rattle.traces.proofs.check_values.Given as goal
 
-abbrev pub invariant-loop-c : goal.invariant-loop-c
-invariant-loop-c l = (l.c ≤ l.count) × (first_below l.c (judged l.values) ≡ pass)
-
-abbrev pub decreases-loop-c : goal.decreases-loop-c
-decreases-loop-c l = l.count - l.c
+abbrev pub invariant-loop-value : goal.invariant-loop-value
+invariant-loop-value l = first_below l.value-index (judged l.values) ≡ pass
