@@ -18,8 +18,10 @@ struct Search {
 }
 
 impl Search {
+    ghost use Rattle.graph_chains.specs.Methods.{state_of};
+
     fn new() -> Self
-        ensures { state result.marks result.stack ≡ blank }
+        ensures { state_of result ≡ blank }
     {
         Search {
             marks: [0; PLACES],
@@ -30,7 +32,7 @@ impl Search {
     // The feeder x is marked and stacked, if it is a node and has no mark.
     fn push(&mut self, x: u16)
         requires { x < places }
-        ensures { state self.new.marks self.new.stack ≡ pushed (state self.old.marks self.old.stack) x }
+        ensures { state_of self.new ≡ pushed (state_of self.old) x }
     {
         let node = usize::from(x);
         if x == 0 || self.marks[node] != 0 {
@@ -43,7 +45,7 @@ impl Search {
     // Each feeder of the node is marked and stacked.
     fn push_feeders(&mut self, graph: &Graph, node: usize)
         requires { node ≤ graph.now.size }
-        ensures { state self.new.marks self.new.stack ≡ pushed_all graph.now.edges.now (state self.old.marks self.old.stack) node }
+        ensures { state_of self.new ≡ pushed_all graph.now.edges.now (state_of self.old) node }
     {
         for j in 0..4 {
             self.push(graph.feeder(node, j));
