@@ -28,7 +28,7 @@ impl<'a> Network<'a> {
         }
     }
 
-    // The feeder that entry i of the graph names, 0 for none.
+    // The feeder that entry i of the graph names, 0 for none: the number that the entry is to hold.
     fn feeder_of(&self, follow: &[u8], i: usize) -> u16
         requires follow_len { length follow.now ≡ 4097 }
         requires is_entry { (4 ≤ i) × (i < 4 * self.now.size + 4) }

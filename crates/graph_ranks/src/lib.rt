@@ -34,7 +34,8 @@ pub struct Graph<'a> {
 impl<'a> Graph<'a> {
     ghost use Rattle.graph_ranks.specs.Methods.{SomeRanked, Visited, Passed, Descended};
 
-    // The feeder that entry j of the node names, or 0 for none.
+    // The feeder that entry j of the node names, or 0 for none, as the entry has it: an Option would be made here and taken
+    // apart at once, and no caller would lose its test.
     pub fn feeder(&self, node: usize, j: usize) -> u16
         requires within { (node ≤ self.now.size) × (j < 4) }
         ensures named { result ≡ get_or self.now.edges.now (4 * node + j) 0 }
