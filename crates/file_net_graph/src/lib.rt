@@ -2,12 +2,14 @@
 
 #![tactic(auto)]
 
-ghost use Rattle.std.specs.Prelude.{◌≡◌, ◌+◌, ◌*◌, ◌<◌, ◌≤◌, length, replicate};
+ghost use Rattle.std.specs.Prelude.{◌≡◌, ◌+◌, ◌*◌, ◌<◌, ◌≤◌, eqb, length, replicate};
 ghost use Rattle.graph_ranks.specs.Graph.{IsGraph};
+ghost use Rattle.model.specs.Network.{rank_order};
+ghost use Rattle.model.specs.Netlist.{net_field};
 ghost use Rattle.file_net_graph.specs.Lines.{Lines};
 ghost use Rattle.file_net_graph.specs.Graph.{follow_to, feeder_of, edges_to, follow_of, edges_of};
 
-use file_net_line::field;
+use file_net_line::{Kind, field};
 
 // A network of which the lines were found right.
 #[derive(Clone, Copy)]
@@ -18,13 +20,21 @@ struct Network<'a> {
 }
 
 impl<'a> Network<'a> {
+    // Is s a rank-order gate?
+    fn is_rank_order(&self, s: usize) -> bool
+        requires { s ≤ self.now.size }
+        ensures { result ≡ eqb (net_field self.now.net.now s 0) rank_order }
+    {
+        Kind::try_from(field(self.net, s, 0)) == Ok(Kind::RankOrder)
+    }
+
     // The rank-order gates, marked with 1.
     fn mark_followed(&self, follow: &mut [u8])
         requires { length follow.old ≡ 4097 }
         ensures { follow.new ≡ follow_to self.now.net.now follow.old self.now.size }
     {
         for s in 1..usize::from(self.size) + 1 {
-            follow[s] = u8::from(field(self.net, s, 0) == 3);
+            follow[s] = u8::from(self.is_rank_order(s));
         }
     }
 

@@ -12,7 +12,7 @@ loop-s-init c = (omega arith, refl)
 
 pub loop-s-preserved : goal.loop-s-preserved
 loop-s-preserved c =
-    (omega arith, follow_more c.args.self.now.net.now c.args.follow.now _ c.loop-s.s c.from.result (omega arith) c.loop-s.invariant.1 (rw (← c.field.ensures) (search rules)))
+    (omega arith, follow_more c.args.self.now.net.now c.args.follow.now _ c.loop-s.s c.from.result (omega arith) c.loop-s.invariant.1 (rw (← c.is_rank_order.ensures) (search rules)))
 
 pub returns : goal.returns
 returns c = c.loop-s.invariant.1 ∙ ap (follow_to c.args.self.now.net.now c.args.follow.now) (omega arith)
