@@ -31,6 +31,7 @@ pub struct Instruction {
 }
 
 // The operand that a pair names. A part that has no location, as 9, names none.
+#[tactic(auto, using(logic::proofs::Tests::decided), unfolding(crate::specs::Operand::operand_of))]
 pub fn operand_of(part: u16, location: u8) -> Operand
     ensures { result ≡ operand_of part location }
 {
@@ -44,11 +45,9 @@ pub fn operand_of(part: u16, location: u8) -> Operand
 }
 
 // "processors below P", or none.
+#[tactic(auto, using(crate::proofs::Senders::below, crate::proofs::Senders::other))]
 pub fn sender_right(sender: u16, processors: u16) -> bool
     ensures { result ≡ sender_laid processors sender }
 {
-    if sender < processors {
-        return true;
-    }
-    sender == 99
+    sender < processors || sender == 99
 }

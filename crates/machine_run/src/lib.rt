@@ -7,8 +7,8 @@ ghost use Rattle.gates.specs.Value.{Code};
 ghost use Rattle.model.specs.Machine.{slots as slots_done};
 ghost use Rattle.model.specs.Session.{watched};
 ghost use Rattle.buffers_memory.specs.Memory.{memory_of, with_memory, MemoryBytes};
-ghost use Rattle.buffers_tables.specs.Panel.{panel_length, processors_in, slots_in, hand_in, processor_in, slot_in};
-ghost use Rattle.buffers_tables.specs.Tables.{network_in, module_in};
+ghost use Rattle.buffers_tables.specs.Panel.{panel_length, processors_in, slots_in, processor_in, slot_in};
+ghost use Rattle.machine_slot.specs.Held.{network_of, module_of, hands_of};
 ghost use Rattle.machine_run.specs.Running.{cycle_in, watch_of, run_in, Watching};
 
 use clock::{Cycle, Slot};
@@ -32,7 +32,7 @@ pub struct Ran {
 // The slots of a cycle, one after the other.
 fn run_slots(machine: &Machine, memory: &mut [u8])
     requires memory_bytes { MemoryBytes memory.old }
-    ensures { memory.new ≡ with_memory (processors_in machine.now.panel.now) (slots_in machine.now.panel.now) (slots_done (network_in machine.now.panel.now machine.now.program.now) (module_in machine.now.panel.now machine.now.program.now) (hand_in machine.now.panel.now) (slots_in machine.now.panel.now) (memory_of memory.old)) memory.old }
+    ensures { memory.new ≡ with_memory (processors_in machine.now.panel.now) (slots_in machine.now.panel.now) (slots_done (network_of machine.now) (module_of machine.now) (hands_of machine.now) (slots_in machine.now.panel.now) (memory_of memory.old)) memory.old }
 {
     for i in 0..machine.slots {
         machine.run_slot(Slot(i), memory);

@@ -9,17 +9,17 @@ use Rattle.machine_slot.proofs.Machine.evaluate.Goals as goal
 
 pub returns-then-signal-eq0 : goal.returns-then-signal-eq0
 unfolding evaluated_on
-returns-then-signal-eq0 c = rw (← c.signal_in-signal.ensures, eq-eqb _ 0 c.if-signal-eq0.true)
+returns-then-signal-eq0 c = rw (← (c.from-signal.ensures ∙ c.signal_in.ensures), eq-eqb _ 0 c.if-signal-eq0.true)
 
 pub kind-requires : goal.kind-requires
 kind-requires c =
-    (c.args.self.now.in_range.panel_size, rw c.signal_in-signal.ensures (line_signal c.args.self.now.in_range c.requires.place.0 c.requires.place.1))
+    (c.args.self.now.in_range.panel_size, rw (c.from-signal.ensures ∙ c.signal_in.ensures) (line_signal c.args.self.now.in_range c.requires.place.0 c.requires.place.1))
 
 pub returns-then-kind-eq1 : goal.returns-then-kind-eq1
 unfolding evaluated_on
 returns-then-kind-eq1 c =
     rw (
-      ← c.signal_in-signal.ensures,
+      ← (c.from-signal.ensures ∙ c.signal_in.ensures),
       ne_eqb _ 0 c.if-signal-eq0.false,
       eq-eqb _ input (sym c.kind.ensures ∙ c.if-kind-eq1.true),
     ) c.hand.ensures
@@ -32,13 +32,13 @@ gate_on-requires-clause-line_bound c =
 pub gate_on-requires-clause-legal : goal.gate_on-requires-clause-legal
 gate_on-requires-clause-legal c =
     rw c.instruction_in-line.ensures
-    (line_codes c.args.self.now.in_range c.requires.place.0 c.requires.place.1 (λ e. c.if-signal-eq0.false (c.signal_in-signal.ensures ∙ e)))
+    (line_codes c.args.self.now.in_range c.requires.place.0 c.requires.place.1 (λ e. c.if-signal-eq0.false ((c.from-signal.ensures ∙ c.signal_in.ensures) ∙ e)))
 
 pub returns : goal.returns
 unfolding evaluated_on
 returns c =
-    let kind = rw c.signal_in-signal.ensures at c.kind.ensures in
+    let kind = rw (c.from-signal.ensures ∙ c.signal_in.ensures) at c.kind.ensures in
     rw (
-      ne_eqb _ 0 (λ e. c.if-signal-eq0.false (c.signal_in-signal.ensures ∙ e)),
+      ne_eqb _ 0 (λ e. c.if-signal-eq0.false ((c.from-signal.ensures ∙ c.signal_in.ensures) ∙ e)),
       ne_eqb _ input (λ e. c.if-kind-eq1.false (kind ∙ e)),
     ) (rw c.instruction_in-line.ensures at c.gate_on.ensures)

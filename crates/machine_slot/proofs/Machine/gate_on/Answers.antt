@@ -6,6 +6,7 @@ pub returns : goal.returns
 unfolding gate_on
 returns c =
     rw (
+      ← c.from.ensures,
       ← c.gate_in-gate.ensures,
       ← c.fetch.ensures.0,
       ← c.fetch-2.ensures.0,

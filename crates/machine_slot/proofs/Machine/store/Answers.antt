@@ -1,5 +1,6 @@
 -- The two stores write what `storing` has at the location (`both_stored`); a processor received from is below 16 (`sender_fits`).
 use Rattle.buffers_tables.specs.Tables.{module_in}
+use Rattle.machine_slot.specs.Held.{module_of}
 use Rattle.machine_slot.proofs.Fetching.{sender_fits}
 use Rattle.machine_slot.proofs.Slots.{both_stored}
 use native.Mathlib.Omega.{arith}
@@ -14,6 +15,6 @@ pub returns : goal.returns
 unfolding module_in
 returns c =
     let machine = c.args.self.now in
-    both_stored (module_in machine.panel.now machine.program.now) _ _ _ _ c.requires.memory_size _
+    both_stored (module_of machine) _ _ _ _ c.requires.memory_size _
     (omega (arith, machine.in_range.processors_high, c.requires.place.0)) (omega (arith, machine.in_range.slots_high, c.requires.place.1)) _ _
     (rw c.instruction_in-line.ensures at c.store_result.ensures) (rw c.instruction_in-line.ensures at c.store_received.ensures)

@@ -2,7 +2,7 @@
 use mathlib.Core.Path.{◌∙◌, ap}
 use lib.ListN.{length}
 use Rattle.buffers_memory.proofs.Written.{written_length}
-use Rattle.buffers_tables.specs.Tables.{module_in}
+use Rattle.machine_slot.specs.Held.{module_of}
 use Rattle.machine_slot.proofs.Slots.{none_passed, processor_stored}
 use Rattle.machine_slot.proofs.Machine.store_all.Goals as goal
 
@@ -12,5 +12,5 @@ loop-p-init c = (c.requires.memory_size, none_passed _ _ _ c.requires.memory_siz
 pub loop-p-preserved : goal.loop-p-preserved
 loop-p-preserved c =
     let machine = c.args.self.now in
-    let next = processor_stored (module_in machine.panel.now machine.program.now) _ _ _ _ _ _ c.loop-p.p c.loop-p.invariant.1 c.store.ensures in
+    let next = processor_stored (module_of machine) _ _ _ _ _ _ c.loop-p.p c.loop-p.invariant.1 c.store.ensures in
     (ap length next ∙ written_length _ _ _, next)

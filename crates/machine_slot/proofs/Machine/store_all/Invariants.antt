@@ -2,11 +2,11 @@
 use mathlib.Core.Path.{◌≡◌}
 use lib.ListN.{length}
 use Rattle.buffers_memory.specs.Memory.{memory_length, memory_of, written}
-use Rattle.buffers_tables.specs.Tables.{module_in}
+use Rattle.machine_slot.specs.Held.{module_of}
 use Rattle.machine_slot.specs.Storing.{storing, passed}
 use Rattle.machine_slot.proofs.Machine.store_all.Given as goal
 
 abbrev pub invariant-loop-p : goal.invariant-loop-p
 invariant-loop-p l =
     (length l.memory ≡ memory_length)
-    × (l.memory ≡ written (passed l.p l.slot.0) (storing (module_in l.self.panel.now l.self.program.now) l.slot.0 l.fetched.results l.fetched.sent (memory_of l.initial.memory)) l.initial.memory)
+    × (l.memory ≡ written (passed l.p l.slot.0) (storing (module_of l.self) l.slot.0 l.results l.sent (memory_of l.initial.memory)) l.initial.memory)
