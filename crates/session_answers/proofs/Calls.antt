@@ -32,6 +32,11 @@ module _ {E : Type 0} {refusal : E → Check} {check : Check} {bytes lent left :
   pub leaves_done : check ≡ pass → left ≡ bytes → Leaves refusal check bytes lent (Ok (tt {0})) left
   leaves_done passed same = record { answers = sym passed; leaves = same ∙ sym (left_done check bytes lent passed) }
 
+-- the same refusal as a caller's
+pub told_as : {A E F : Type 0} {refusal : E → Check} {other : F → Check} {x : A} {check : Check} {e : E} {f : F}
+    → other f ≡ refusal e → Answers refusal x check (Err e) → Answers other x check (Err f)
+told_as told answers = record { refuses = told ∙ answers.refuses; accepts = λ p. absurd (refuses answers refl p) }
+
 -- a test that cannot pass refuses
 pub unless_fails : (test : Bool) (number returned : ℕ) → (test ≡ true → ⊥) → unless test number returned ≡ fail number returned
 unfolding unless

@@ -4,7 +4,9 @@
 
 ghost use Rattle.std.specs.Prelude.{◌≡◌};
 ghost use Rattle.model.specs.Session.{refused};
-ghost use Rattle.file_lines.specs.Answer.{answered};
+ghost use Rattle.file_lines.specs.Answer.{answered, Answers};
+ghost use Rattle.session_answers.specs.Recorded.{recorded_checks};
+ghost use Rattle.session_answers.specs.Refusals.{recorded_refusal};
 ghost use Rattle.session_answers.specs.Answers.{call_answer, answer_bits, check_bits};
 
 use clock::Cycle;
@@ -34,6 +36,32 @@ impl Refusal for CallRefusal {
             CallRefusal::TooManyCycles(finished) => (43, u32::from(finished.0)),
         }
     }
+}
+
+// The refusal of a recorded value (02, tickets 7 and 1): 42, which returns it.
+#[derive(Clone, Copy, Debug, PartialEq, Eq)]
+pub struct NoSuchValue(pub u8);
+
+impl Refusal for NoSuchValue {
+    ghost use Rattle.session_answers.specs.Refusals.{recorded_refusal};
+
+    ghost refusal = { recorded_refusal };
+
+    fn told(self) -> (u8, u32) {
+        (42, u32::from(self.0))
+    }
+}
+
+// The first recorded value above 3.
+pub fn check_recorded(values: &[u8]) -> Result<(), NoSuchValue>
+    ensures { Answers recorded_refusal (tt {0}) (recorded_checks values.now) result }
+{
+    for &value in values {
+        if 3 < value {
+            return Err(NoSuchValue(value));
+        }
+    }
+    Ok(())
 }
 
 // What a call replies that is not refused: that it is done, the value read, or the cycles of a run and whether it stopped.

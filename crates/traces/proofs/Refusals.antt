@@ -3,8 +3,9 @@ use Prim.Native.Nat.{ℕ, ◌≤◌, ◌<◌}
 use mathlib.Core.Path.{◌≡◌, refl, ◌∙◌}
 use mathlib.Core.Bool.{true}
 use mathlib.Core.List.{List}
-use lib.ListN.{length, get_or}
-use borrow.Author.Tests.{eqb-true, eq-eqb, le-leb, lt-leb, leb-true}
+use lib.ListN.{length, get_or, take}
+use Rattle.std.proofs.lemmas.List.{get_or-take, length-take-le}
+use borrow.Author.Tests.{eqb-true, eq-eqb, le-leb, lt-leb}
 use native.Mathlib.Omega.{arith}
 use Rattle.logic.specs.Test.{◌and◌}
 use mathlib.Core.Logic.{◌⊎◌, ⊎_elim}
@@ -15,8 +16,8 @@ use Rattle.model.specs.Session.{same_lengths}
 use Rattle.model.proofs.Refusals.{first_left, first_stays, first_second, unless_true, unless_pass, below_pass}
 use Rattle.file_lines.specs.Answer.{Answers}
 use Rattle.file_lines.proofs.Stages.{refused, passes, after, stops}
-use Rattle.session_answers.specs.Recorded.{recorded_check}
-use Rattle.session_answers.proofs.Recorded.{recorded_legal}
+use Rattle.session_answers.specs.Recorded.{recorded_checks}
+use Rattle.session_answers.proofs.Recorded.{recorded_legal, recorded_same}
 use Rattle.session_answers.proofs.Calls.{unless_fails}
 use Rattle.traces.specs.Turned.{most_cycles, values_length, block_length}
 use Rattle.traces.specs.Checks.{turn_lent, turn_fixed, count_right, count_check, sizes_check, values_check}
@@ -68,16 +69,14 @@ module _ (count : ℕ) where
   unfolding count_check count_right
   count_pass some few = unless_pass _ 52 0 (and_true _ _ (le-leb 1 count (omega arith)) (le-leb count most_cycles few))
 
-  -- a count that passed
-  pub count_high : count_check count ≡ pass → count ≤ most_cycles
-  unfolding count_check count_right
-  count_high e = leb-true count most_cycles (and_right _ _ (unless_true _ 52 0 e))
-
-module _ (values : List ℕ) where
-  abbrev pub judged : ℕ → Check
-  judged c = recorded_check (get_or values c 0)
-
-  -- none within the count is above 3
-  pub values_legal : (count : ℕ) → values_check values count ≡ pass → (c : ℕ) → c < count → get_or values c 0 ≤ 3
+module _ (values : List ℕ) (count : ℕ) where
+  -- the values that are judged
+  pub values_taken : count ≤ length values → recorded_checks (take count values) ≡ values_check values count
   unfolding values_check
-  values_legal count e c low = recorded_legal (get_or values c 0) (below_pass count judged e c low)
+  values_taken long =
+      recorded_same (take count values) count (λ c. get_or values c 0) (length-take-le count values long) (λ c low. get_or-take count values c 0 low)
+
+  -- none of them is above 3
+  pub values_legal : values_check values count ≡ pass → (c : ℕ) → c < count → get_or values c 0 ≤ 3
+  unfolding values_check
+  values_legal e c low = recorded_legal (get_or values c 0) (below_pass count _ e c low)

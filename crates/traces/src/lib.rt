@@ -3,16 +3,17 @@
 
 #![tactic(auto)]
 
-ghost use Rattle.std.specs.Prelude.{◌≡◌, ◌+◌, ◌*◌, ◌%◌, ◌<◌, ◌≤◌, ltb, length, get_or};
+ghost use Rattle.std.specs.Prelude.{◌≡◌, ◌+◌, ◌*◌, ◌%◌, ◌<◌, ◌≤◌, ltb, length, get_or, IfOk};
 ghost use Rattle.file_lines.specs.Answer.{Answers};
 ghost use Rattle.session_answers.specs.Answers.{check_bits};
 ghost use Rattle.session_answers.specs.Left.{left_after, Leaves};
 ghost use Rattle.traces.specs.Bits.{bit, bits};
 ghost use Rattle.traces.specs.Turned.{most_cycles, values_length, block_length, turned, block_value, value_back, turned_back};
-ghost use Rattle.traces.specs.Checks.{count_check, values_check, unused_check, turn_check, turn_back_check};
+ghost use Rattle.traces.specs.Checks.{count_check, unused_check, turn_check, turn_back_check};
 ghost use Rattle.traces.specs.Answer.{turn_refusal};
 
 use file_lines::Refusal;
+use session_answers::NoSuchValue;
 use std::array::TryFromSliceError;
 
 // The lengths of the two buffers, a byte and two bits for each cycle, and the most cycles of a block.
@@ -56,27 +57,25 @@ impl From<TryFromSliceError> for TurnRefusal {
     }
 }
 
+impl From<NoSuchValue> for TurnRefusal {
+    ghost use Rattle.traces.specs.declared.TurnRefusal.TheVariants.{NoSuchValue};
+
+    ghost from_gives = { λ error refusal. refusal ≡ NoSuchValue error.0 };
+
+    fn from(error: NoSuchValue) -> TurnRefusal {
+        TurnRefusal::NoSuchValue(error.0)
+    }
+}
+
 // The cycles that a block is to have: 1 to 64.
 fn cycles_of(count: u32) -> Result<usize, TurnRefusal>
-    ensures { Answers turn_refusal count (count_check count) result }
+    ensures answers { Answers turn_refusal count (count_check count) result }
+    ensures at_most { IfOk result (λ cycles. cycles ≤ most_cycles) }
 {
     if count == 0 || MOST_CYCLES < count {
         return Err(TurnRefusal::WrongCount);
     }
     Ok(count as usize)
-}
-
-// The first value above 3 within the count.
-fn check_values(values: &[u8; VALUES_BYTES], count: usize) -> Result<(), TurnRefusal>
-    requires { count ≤ most_cycles }
-    ensures { Answers turn_refusal (tt {0}) (values_check values.now count) result }
-{
-    for &value in &values[..count] {
-        if 3 < value {
-            return Err(TurnRefusal::NoSuchValue(value));
-        }
-    }
-    Ok(())
 }
 
 // A bit of a byte.
@@ -122,7 +121,7 @@ fn turn_checked(values: &[u8], block: &mut [u8], count: u32) -> Result<(), TurnR
         return Err(TurnRefusal::WrongLength);
     }
     let count = cycles_of(count)?;
-    check_values(values, count)?;
+    session_answers::check_recorded(&values[..count])?;
     turn_all(values, count, block);
     Ok(())
 }

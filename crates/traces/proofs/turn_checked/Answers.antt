@@ -1,11 +1,16 @@
 -- Each refusal at its place leaves the block as it was lent; where none applies, the values are turned.
-use Prim.Native.Nat.{◌≤◌}
-use mathlib.Core.Path.{◌≡◌, refl, ◌∙◌, ap₂}
+use Prim.Native.Nat.{ℕ}
+use mathlib.Core.Path.{◌≡◌, refl, sym, ◌∙◌, ap₂}
 use Rattle.file_lines.proofs.Stages.{passes, same, renamed}
-use Rattle.session_answers.proofs.Calls.{leaves_lent, leaves_done}
-use Rattle.traces.specs.Turned.{most_cycles, turned}
+use Rattle.session_answers.proofs.Calls.{leaves_lent, leaves_done, told_as}
+use Rattle.session_answers.specs.Recorded.{recorded_checks}
+use Rattle.model.proofs.Refusals.{first_both}
+use lib.ListN.{take}
+use mathlib.Core.List.{List}
+use native.Mathlib.Omega.{arith}
+use Rattle.traces.specs.Turned.{turned}
 use Rattle.traces.specs.Checks.{values_check, turn_check}
-use Rattle.traces.proofs.Refusals.{Sizes, sizes_wrong, count_stops, count_passes, count_high}
+use Rattle.traces.proofs.Refusals.{Sizes, sizes_wrong, sizes_right, count_stops, count_passes, values_taken}
 use Rattle.traces.proofs.turn_checked.Goals as goal
 use Rattle.traces.proofs.turn_checked.Goals.{In_ok-count}
 
@@ -13,10 +18,7 @@ sized : (c : In_ok-count) → Sizes c.args.values.now c.args.block.now
 sized c = record { values_size = c.in_ok-values.ensures.1.long; block_size = c.if-block-ne-BLOCK_BYTES.false }
 
 cycles : (c : In_ok-count) → c.in_ok-count.count ≡ c.args.count
-cycles c = same c.cycles_of.ensures c.in_ok-count.was
-
-few : (c : In_ok-count) → c.in_ok-count.count ≤ most_cycles
-few c = rw (cycles c) (count_high c.args.count (passes c.cycles_of.ensures c.in_ok-count.was))
+cycles c = same c.cycles_of.ensures.answers c.in_ok-count.was
 
 pub returns-in_err-values : goal.returns-in_err-values
 unfolding turn_check
@@ -31,32 +33,29 @@ unfolding turn_check
 returns-in_err-count c =
     let sized : Sizes c.args.values.now c.args.block.now =
     record { values_size = c.in_ok-values.ensures.1.long; block_size = c.if-block-ne-BLOCK_BYTES.false } in
-    leaves_lent (count_stops _ _ _ sized c.in_err-count.ensures refl _) c.from_residual-in_err-count.ensures.1 refl
+    leaves_lent (count_stops _ _ _ sized c.in_err-count.ensures.answers refl _) c.from_residual-in_err-count.ensures.1 refl
 
-pub check_values-requires : goal.check_values-requires
-check_values-requires c = few (goal.at.check_values-requires c).In_ok-count
+-- the values that are judged
+judged : (c : In_ok-count) → recorded_checks (take c.in_ok-count.count c.in_ok-values.values.now) ≡ values_check c.args.values.now c.args.count
+judged c =
+    ap₂ (λ (v : List ℕ) (n : ℕ). recorded_checks (take n v)) c.in_ok-values.ensures.1.same (cycles c)
+    ∙ values_taken c.args.values.now c.args.count (omega (arith, cycles c, c.in_ok-count.ensures.at_most, c.in_ok-values.ensures.1.long))
 
-pub returns-in_err-check_values : goal.returns-in_err-check_values
+pub returns-in_err-check_recorded : goal.returns-in_err-check_recorded
 unfolding turn_check
-returns-in_err-check_values c =
-    let at = (goal.at.returns-in_err-check_values c).In_ok-count in
+returns-in_err-check_recorded c =
+    let at = (goal.at.returns-in_err-check_recorded c).In_ok-count in
     leaves_lent
-    (count_passes _ _ _ (sized at) c.cycles_of.ensures c.in_ok-count.was
-    (renamed refl (ap₂ values_check c.in_ok-values.ensures.1.same (cycles at)) c.in_err-check_values.ensures))
-    c.from_residual-in_err-check_values.ensures.1
+    (count_passes _ _ _ (sized at) c.cycles_of.ensures.answers c.in_ok-count.was
+    (renamed refl (judged at) (told_as refl c.in_err-check_recorded.ensures)))
+    c.from_residual-in_err-check_recorded.ensures.1
     refl
-
-pub turn_all-requires : goal.turn_all-requires
-turn_all-requires c = (few (goal.at.turn_all-requires c).In_ok-count, c.if-block-ne-BLOCK_BYTES.false)
 
 pub returns : goal.returns
 unfolding turn_check
 returns c =
     let at = (goal.at.returns c).In_ok-count in
-    let v = c.in_ok-values.ensures.1.same in
+    let rest = passes c.check_recorded.ensures c.in_ok-check_recorded.was in
     leaves_done
-    (passes
-    (count_passes _ _ _ (sized at) c.cycles_of.ensures c.in_ok-count.was
-    (renamed refl (ap₂ values_check v (cycles at)) c.check_values.ensures))
-    c.in_ok-check_values.was)
-    (c.turn_all.ensures ∙ ap₂ turned v (cycles at))
+    (first_both _ _ (sizes_right _ _ _ (sized at) ∙ passes c.cycles_of.ensures.answers c.in_ok-count.was) (sym (judged at) ∙ rest))
+    (c.turn_all.ensures ∙ ap₂ turned c.in_ok-values.ensures.1.same (cycles at))
