@@ -13,6 +13,8 @@ use instruction::Operand;
 // The length of the memory, the bytes of a processor, those of each of its parts, its parts, and the parts of all processors.
 pub const MEMORY_BYTES: usize = 20480;
 
+pub type Memory = [u8; MEMORY_BYTES];
+
 pub const PROCESSOR_STRIDE: usize = 1280;
 
 pub const PART_STRIDE: usize = 256;
@@ -56,7 +58,7 @@ fn location_of(a: Operand) -> usize
 
 // The value at the location that an operand names.
 #[tactic(auto, using(crate::proofs::Fetched::fetched_there))]
-pub fn fetch(memory: &[u8], processor: usize, a: Operand) -> u8
+pub fn fetch(memory: &Memory, processor: usize, a: Operand) -> u8
     requires memory_bytes { MemoryBytes memory.now }
     requires processor_bound { processor < 16 }
     ensures { (result ≡ fetched (memory_of memory.now) processor (part_of a) (location_of a)) × Code result }
@@ -65,16 +67,16 @@ pub fn fetch(memory: &[u8], processor: usize, a: Operand) -> u8
 }
 
 // A value stored at a location of a part.
-pub fn store(memory: &mut [u8], processor: usize, part: usize, location: usize, value: u8)
-    requires { (length memory.old ≡ memory_length) × (processor < 16) × (part < blank) × (location < 256) }
+pub fn store(memory: &mut Memory, processor: usize, part: usize, location: usize, value: u8)
+    requires { (processor < 16) × (part < blank) × (location < 256) }
     ensures { memory.new ≡ set memory.old (place processor part location) value }
 {
     memory[PROCESSOR_STRIDE * processor + PART_STRIDE * part + location] = value;
 }
 
 // "Halves alternate": the parts 0 and 1, and 2 and 3, change places in one location.
-fn exchange(memory: &mut [u8], processor: usize, location: usize)
-    requires { (length memory.old ≡ memory_length) × (processor < 16) × (location < 256) }
+fn exchange(memory: &mut Memory, processor: usize, location: usize)
+    requires { (processor < 16) × (location < 256) }
     ensures { memory.new ≡ written (here processor location) (alternated (memory_of memory.old)) memory.old }
 {
     let at = PROCESSOR_STRIDE * processor + location;
@@ -84,8 +86,8 @@ fn exchange(memory: &mut [u8], processor: usize, location: usize)
 
 // The same in the locations of one processor.
 #[tactic(auto, using(crate::proofs::Halves::none_below, crate::proofs::Halves::location_alternated))]
-fn alternate_one(memory: &mut [u8], processor: usize, slots: usize)
-    requires { (length memory.old ≡ memory_length) × (processor < 16) × (slots ≤ 256) }
+fn alternate_one(memory: &mut Memory, processor: usize, slots: usize)
+    requires { (processor < 16) × (slots ≤ 256) }
     ensures { memory.new ≡ written (below processor slots) (alternated (memory_of memory.old)) memory.old }
 {
     for k in 0..slots {
@@ -95,8 +97,8 @@ fn alternate_one(memory: &mut [u8], processor: usize, slots: usize)
 
 // "Halves alternate each cycle": the earlier half is what this cycle stored.
 #[tactic(auto, using(crate::proofs::Halves::none_within, crate::proofs::Halves::processor_alternated))]
-pub fn alternate(memory: &mut [u8], processors: usize, slots: usize)
-    requires { (length memory.old ≡ memory_length) × (processors ≤ 16) × (slots ≤ 256) }
+pub fn alternate(memory: &mut Memory, processors: usize, slots: usize)
+    requires { (processors ≤ 16) × (slots ≤ 256) }
     ensures { memory.new ≡ with_memory processors slots (alternated (memory_of memory.old)) memory.old }
 {
     for p in 0..processors {

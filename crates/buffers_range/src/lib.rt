@@ -8,10 +8,12 @@ ghost use Rattle.buffers_tables.specs.Panel.{panel_length};
 ghost use Rattle.buffers_tables.specs.Program.{program_length};
 ghost use Rattle.buffers_range.specs.Ranges.{ranged};
 
+use buffers_memory::Memory;
+use buffers_tables::{Panel, Program};
+
 // 44: every number of the working buffers is in its range.
 #[tactic(auto, using(logic::proofs::Judged::connected, buffers_range_panel::proofs::Numbers::processors_limit, buffers_range_panel::proofs::Numbers::slots_limit), unfolding(crate::specs::Ranges::ranged))]
-pub fn in_range(panel: &[u8], program: &[u8], memory: &[u8]) -> bool
-    requires { (length panel.now ≡ panel_length) × (length program.now ≡ program_length) × (length memory.now ≡ memory_length) }
+pub fn in_range(panel: &Panel, program: &Program, memory: &Memory) -> bool
     ensures { result ≡ ranged panel.now program.now memory.now }
 {
     buffers_range_panel::panel_right(panel)

@@ -8,7 +8,8 @@ ghost use Rattle.buffers_tables.specs.Panel.{panel_length, slots_in};
 ghost use Rattle.buffers_range_memory.specs.Ranges.{memory_ranged};
 ghost use Rattle.buffers_range_memory.specs.Order.{values_in, part_at, parts_at};
 
-use buffers_memory::{BLANK, MEMORY_PARTS, PART_STRIDE, PROCESSOR_PARTS};
+use buffers_memory::{BLANK, MEMORY_PARTS, Memory, PART_STRIDE, PROCESSOR_PARTS};
+use buffers_tables::Panel;
 
 // How many values the part of the memory with this index holds: C in the four parts of P processors, and none elsewhere.
 #[tactic(auto, using(logic::proofs::Judged::connected), unfolding(crate::specs::Order::values_in))]
@@ -25,7 +26,7 @@ fn values_in(index: usize, processors: u8, slots: u16) -> usize
 
 // The 256 bytes of a part: values in the module's slots, and zeros.
 #[tactic(auto, using(logic::proofs::Judged::connected), unfolding(crate::specs::Order::part_at))]
-fn part_right(memory: &[u8], at: usize, values: usize) -> bool
+fn part_right(memory: &Memory, at: usize, values: usize) -> bool
     requires { (at + part_stride ≤ length memory.now) × (values ≤ part_stride) }
     ensures { result ≡ part_at memory.now at values }
 {
@@ -34,8 +35,8 @@ fn part_right(memory: &[u8], at: usize, values: usize) -> bool
 }
 
 // The memory: 16 processors of five parts.
-fn parts_right(memory: &[u8], processors: u8, slots: u16) -> bool
-    requires { (length memory.now ≡ memory_length) × (slots ≤ 256) }
+fn parts_right(memory: &Memory, processors: u8, slots: u16) -> bool
+    requires { slots ≤ 256 }
     ensures { result ≡ parts_at memory.now processors slots }
 {
     (0..MEMORY_PARTS).all(|j| part_right(memory, PART_STRIDE * j, values_in(j, processors, slots)))
@@ -43,8 +44,7 @@ fn parts_right(memory: &[u8], processors: u8, slots: u16) -> bool
 
 // The memory, P and C being the panel's.
 #[tactic(auto, using(crate::proofs::Parts::memory_order))]
-pub fn memory_right(panel: &[u8], memory: &[u8]) -> bool
-    requires lengths { (length panel.now ≡ panel_length) × (length memory.now ≡ memory_length) }
+pub fn memory_right(panel: &Panel, memory: &Memory) -> bool
     requires slots_high { slots_in panel.now ≤ 256 }
     ensures { result ≡ memory_ranged panel.now memory.now }
 {

@@ -8,7 +8,7 @@ ghost use Rattle.buffers_tables.specs.Panel.{panel_length, panel_stride, signal_
 ghost use Rattle.buffers_runs.specs.Zeros.{zeros};
 ghost use Rattle.buffers_range_panel.specs.Ranges.{head_ranged, codes_ranged, signal_ranged, panel_ranged};
 
-use buffers_tables::{CODES, PANEL_STRIDE};
+use buffers_tables::{CODES, PANEL_STRIDE, Panel};
 
 // A number from 1 up to a limit.
 #[tactic(auto, using(logic::proofs::Judged::connected))]
@@ -20,8 +20,7 @@ fn counted(x: u16, most: u16) -> bool
 
 // The session's numbers: "N (1 to 4096)", "P (1 to 16), C (1 to 256)", and the watch.
 #[tactic(auto, using(logic::proofs::Judged::connected), unfolding(crate::specs::Ranges::head_ranged))]
-fn head_right(panel: &[u8]) -> bool
-    requires { length panel.now ≡ panel_length }
+fn head_right(panel: &Panel) -> bool
     ensures { result ≡ head_ranged panel.now }
 {
     let signals = buffers_tables::signals(panel);
@@ -34,8 +33,8 @@ fn head_right(panel: &[u8]) -> bool
 
 // The codes of a signal: zeros of an input, codes that are supplied of a gate.
 #[tactic(auto, using(logic::proofs::Judged::connected), unfolding(crate::specs::Ranges::codes_ranged))]
-fn codes_right(panel: &[u8], signal: usize) -> bool
-    requires { (length panel.now ≡ panel_length) × (signal ≤ 4096) }
+fn codes_right(panel: &Panel, signal: usize) -> bool
+    requires { signal ≤ 4096 }
     ensures { result ≡ codes_ranged panel.now signal }
 {
     let at = PANEL_STRIDE * signal;
@@ -48,8 +47,8 @@ fn codes_right(panel: &[u8], signal: usize) -> bool
 
 // The numbers of a signal: kind, codes, value in hand, and its place among P processors and C slots.
 #[tactic(auto, using(logic::proofs::Judged::connected), unfolding(crate::specs::Ranges::signal_ranged))]
-fn signal_right(panel: &[u8], signal: usize) -> bool
-    requires { (length panel.now ≡ panel_length) × (signal ≤ 4096) }
+fn signal_right(panel: &Panel, signal: usize) -> bool
+    requires { signal ≤ 4096 }
     ensures { result ≡ signal_ranged panel.now signal }
 {
     counted(u16::from(buffers_tables::kind(panel, signal)), 3)
@@ -61,8 +60,8 @@ fn signal_right(panel: &[u8], signal: usize) -> bool
 
 // Signals 1 to N, and zeros above N.
 #[tactic(auto, using(logic::proofs::Judged::connected))]
-fn signals_right(panel: &[u8], signals: usize) -> bool
-    requires { (length panel.now ≡ panel_length) × (signals ≤ 4096) }
+fn signals_right(panel: &Panel, signals: usize) -> bool
+    requires { signals ≤ 4096 }
     ensures { result ≡ all signals (λ k. signal_ranged panel.now (k + 1)) and zeros panel.now (signal_start (signals + 1)) (panel_stride * (4096 - signals)) }
 {
     (0..signals).all(|k| signal_right(panel, k + 1))
@@ -75,8 +74,7 @@ fn signals_right(panel: &[u8], signals: usize) -> bool
 
 // The panel: its head, signals 1 to N, and zeros above N.
 #[tactic(auto, using(logic::proofs::Judged::connected, crate::proofs::Numbers::head_signals), unfolding(crate::specs::Ranges::panel_ranged))]
-pub fn panel_right(panel: &[u8]) -> bool
-    requires { length panel.now ≡ panel_length }
+pub fn panel_right(panel: &Panel) -> bool
     ensures { result ≡ panel_ranged panel.now }
 {
     head_right(panel) && signals_right(panel, usize::from(buffers_tables::signals(panel)))

@@ -10,7 +10,8 @@ ghost use Rattle.buffers_range_program.specs.Ranges.{program_ranged};
 ghost use Rattle.buffers_range_program.specs.Order.{pair_at, operands_at, line_at, slot_at, slots_at};
 
 use buffers_tables::{
-    LINE_STRIDE, OPERAND1, OPERAND2, OPERAND3, OPERAND4, SEND, SENDER, SLOT_LINES, SLOT_STRIDE,
+    LINE_STRIDE, OPERAND1, OPERAND2, OPERAND3, OPERAND4, Panel, Program, SEND, SENDER, SLOT_LINES,
+    SLOT_STRIDE,
 };
 use clock::Slot;
 
@@ -30,17 +31,16 @@ fn equals(x: u16, y: u16) -> u8
 
 // The bytes of a program, with the N, P and C that they are judged by.
 #[derive(Clone, Copy)]
-struct Program<'a> {
-    bytes: &'a [u8],
+struct Judged<'a> {
+    bytes: &'a Program,
     signals: u16,
     processors: u8,
     slots: u16,
-    ghost size: { length bytes.now ≡ program_length },
     ghost processors_high: { processors ≤ 16 },
     ghost slots_high: { slots ≤ 256 },
 }
 
-impl<'a> Program<'a> {
+impl<'a> Judged<'a> {
     // The faults of the pair at a place: a part above `most`, a location not below C, less one where it is "Part 9 with location 0".
     // Parts follow no pattern that a processor could predict, so faults are counted, not branched on.
     #[tactic(auto, using(crate::proofs::Faults::none_fault, crate::proofs::Faults::pair_fault))]
@@ -48,9 +48,10 @@ impl<'a> Program<'a> {
         requires { (at + 2 ≤ program_length) × (most < 9) × (1 ≤ self.now.slots) }
         ensures { (eqb result 0 ≡ pair_at self.now.bytes.now at most self.now.slots) × (result ≤ 2) }
     {
-        let part = reaches(u16::from(self.bytes[at]), most + 1);
-        let location = reaches(u16::from(self.bytes[at + 1]), self.slots);
-        let none = equals(words::word_at(self.bytes, at), 9);
+        let bytes = self.bytes;
+        let part = reaches(u16::from(bytes[at]), most + 1);
+        let location = reaches(u16::from(bytes[at + 1]), self.slots);
+        let none = equals(words::word_at(bytes, at), 9);
         part + location - none
     }
 
@@ -73,12 +74,10 @@ impl<'a> Program<'a> {
         requires { (at + line_stride ≤ program_length) × (1 ≤ self.now.slots) }
         ensures { result ≡ line_at self.now.bytes.now at self.now.signals self.now.processors self.now.slots }
     {
-        words::word_at(self.bytes, at) <= self.signals
+        let bytes = self.bytes;
+        words::word_at(bytes, at) <= self.signals
             && self.operand_faults(at) + self.pair_faults(at + SEND, 1) == 0
-            && instruction::sender_right(
-                u16::from(self.bytes[at + SENDER]),
-                u16::from(self.processors),
-            )
+            && instruction::sender_right(u16::from(bytes[at + SENDER]), u16::from(self.processors))
     }
 
     // The 16 lines of a slot: those of P processors, and zeros.
@@ -86,11 +85,12 @@ impl<'a> Program<'a> {
         requires { slot.0 < self.now.slots }
         ensures { result ≡ slot_at self.now.bytes.now slot.0 self.now.signals self.now.processors self.now.slots }
     {
+        let bytes = self.bytes;
         let at = SLOT_STRIDE * usize::from(slot.0);
         let lines = usize::from(self.processors);
         (0..lines).all(|p| self.line_right(at + LINE_STRIDE * p))
             && buffers_runs::all_zero(
-                self.bytes,
+                bytes,
                 at + LINE_STRIDE * lines,
                 LINE_STRIDE * (SLOT_LINES - lines),
             )
@@ -100,20 +100,20 @@ impl<'a> Program<'a> {
     fn slots_right(&self) -> bool
         ensures { result ≡ slots_at self.now.bytes.now self.now.signals self.now.processors self.now.slots }
     {
+        let bytes = self.bytes;
         let count = usize::from(self.slots);
         (0..self.slots).all(|i| self.slot_right(Slot(i)))
-            && buffers_runs::all_zero(self.bytes, SLOT_STRIDE * count, SLOT_STRIDE * (256 - count))
+            && buffers_runs::all_zero(bytes, SLOT_STRIDE * count, SLOT_STRIDE * (256 - count))
     }
 }
 
 // The program, N, P and C being the panel's.
 #[tactic(auto, using(crate::proofs::Slots::program_order))]
-pub fn program_right(panel: &[u8], program: &[u8]) -> bool
-    requires lengths { (length panel.now ≡ panel_length) × (length program.now ≡ program_length) }
+pub fn program_right(panel: &Panel, program: &Program) -> bool
     requires sizes_high { (processors_in panel.now ≤ 16) × (slots_in panel.now ≤ 256) }
     ensures { result ≡ program_ranged panel.now program.now }
 {
-    let judged = Program {
+    let judged = Judged {
         bytes: program,
         signals: buffers_tables::signals(panel),
         processors: buffers_tables::processors(panel) as u8,

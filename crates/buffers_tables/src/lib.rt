@@ -17,6 +17,10 @@ pub const PANEL_BYTES: usize = 40970;
 
 pub const PROGRAM_BYTES: usize = 53248;
 
+pub type Panel = [u8; PANEL_BYTES];
+
+pub type Program = [u8; PROGRAM_BYTES];
+
 // The bytes of the session and of each signal.
 pub const PANEL_STRIDE: usize = 10;
 
@@ -66,64 +70,58 @@ pub const SEND: usize = 10;
 pub const SENDER: usize = 12;
 
 // N: the signals of the network are 1 to N.
-pub fn signals(panel: &[u8]) -> u16
-    requires { length panel.now ≡ panel_length }
+pub fn signals(panel: &Panel) -> u16
     ensures { result ≡ signals_in panel.now }
 {
     words::word_at(panel, SIGNALS)
 }
 
 // P: the processors of the module.
-pub fn processors(panel: &[u8]) -> usize
-    requires { length panel.now ≡ panel_length }
+pub fn processors(panel: &Panel) -> usize
     ensures { (result ≡ processors_in panel.now) × (result < 256) }
 {
     usize::from(panel[PROCESSORS])
 }
 
 // C: the slots of a cycle.
-pub fn slots(panel: &[u8]) -> u16
-    requires { length panel.now ≡ panel_length }
+pub fn slots(panel: &Panel) -> u16
     ensures { result ≡ slots_in panel.now }
 {
     words::word_at(panel, SLOTS)
 }
 
 // The cycles finished. That the low byte is below 256 lets the number be written back as it is.
-pub fn finished(panel: &[u8]) -> u16
-    requires { length panel.now ≡ panel_length }
+pub fn finished(panel: &Panel) -> u16
     ensures { (result ≡ finished_in panel.now) × (get_or panel.now finished_place 0 < 256) }
 {
     words::word_at(panel, FINISHED)
 }
 
 // The signal of the watch, likewise.
-pub fn watched(panel: &[u8]) -> u16
-    requires { length panel.now ≡ panel_length }
+pub fn watched(panel: &Panel) -> u16
     ensures { (result ≡ watched_in panel.now) × (get_or panel.now watched_place 0 < 256) }
 {
     words::word_at(panel, WATCHED)
 }
 
 // The mask of the watch.
-pub fn mask(panel: &[u8]) -> u8
-    requires { length panel.now ≡ panel_length }
+pub fn mask(panel: &Panel) -> u8
     ensures { result ≡ mask_in panel.now }
 {
     panel[MASK]
 }
 
 // The kind of a signal.
-pub fn kind(panel: &[u8], signal: usize) -> u8
-    requires { (length panel.now ≡ panel_length) × (signal ≤ 4096) }
+pub fn kind(panel: &Panel, signal: usize) -> u8
+    requires { signal ≤ 4096 }
     ensures { result ≡ kind_in panel.now signal }
 {
     panel[PANEL_STRIDE * signal]
 }
 
 // The gate of a signal.
-pub fn gate_in(panel: &[u8], signal: usize) -> Gate
-    requires { (length panel.now ≡ panel_length) × (signal ≤ 4096) }
+pub fn gate_in(panel: &Panel, signal: usize) -> Gate
+    requires { signal ≤ 4096 }
     ensures { result ≡ codes_in panel.now signal }
 {
     let at = PANEL_STRIDE * signal;
@@ -138,39 +136,37 @@ pub fn gate_in(panel: &[u8], signal: usize) -> Gate
 }
 
 // The value in hand of a signal.
-pub fn hand(panel: &[u8], signal: usize) -> u8
-    requires { (length panel.now ≡ panel_length) × (signal ≤ 4096) }
+pub fn hand(panel: &Panel, signal: usize) -> u8
+    requires { signal ≤ 4096 }
     ensures { result ≡ hand_in panel.now signal }
 {
     panel[PANEL_STRIDE * signal + HAND]
 }
 
 // The processor and the slot of a signal's place.
-pub fn place_processor(panel: &[u8], signal: usize) -> usize
-    requires { (length panel.now ≡ panel_length) × (signal ≤ 4096) }
+pub fn place_processor(panel: &Panel, signal: usize) -> usize
+    requires { signal ≤ 4096 }
     ensures { (result ≡ processor_in panel.now signal) × (result < 256) }
 {
     usize::from(panel[PANEL_STRIDE * signal + PROCESSOR])
 }
 
-pub fn place_slot(panel: &[u8], signal: usize) -> u8
-    requires { (length panel.now ≡ panel_length) × (signal ≤ 4096) }
+pub fn place_slot(panel: &Panel, signal: usize) -> u8
+    requires { signal ≤ 4096 }
     ensures { result ≡ slot_in panel.now signal }
 {
     panel[PANEL_STRIDE * signal + SLOT]
 }
 
 // The cycles finished, written.
-pub fn set_finished(panel: &mut [u8], number: u16)
-    requires { length panel.old ≡ panel_length }
+pub fn set_finished(panel: &mut Panel, number: u16)
     ensures { panel.new ≡ with_finished number panel.old }
 {
     words::store_word(panel, FINISHED, number);
 }
 
 // The watch, written: its signal and its mask.
-pub fn set_watch(panel: &mut [u8], signal: u16, mask: u8)
-    requires { length panel.old ≡ panel_length }
+pub fn set_watch(panel: &mut Panel, signal: u16, mask: u8)
     ensures { panel.new ≡ with_watch signal mask panel.old }
 {
     words::store_word(panel, WATCHED, signal);
@@ -178,8 +174,8 @@ pub fn set_watch(panel: &mut [u8], signal: u16, mask: u8)
 }
 
 // The value in hand of a signal, written.
-pub fn set_hand(panel: &mut [u8], signal: usize, value: u8)
-    requires { (length panel.old ≡ panel_length) × (signal ≤ 4096) }
+pub fn set_hand(panel: &mut Panel, signal: usize, value: u8)
+    requires { signal ≤ 4096 }
     ensures { panel.new ≡ with_hand signal value panel.old }
 {
     panel[PANEL_STRIDE * signal + HAND] = value;
@@ -194,15 +190,15 @@ pub fn line_offset(processor: usize, slot: Slot) -> usize
 }
 
 // The signal of the line of a processor and a slot: 0 where the slot is empty.
-pub fn signal_in(program: &[u8], processor: usize, slot: Slot) -> u16
-    requires { (length program.now ≡ program_length) × (processor < 16) × (slot.0 < 256) }
+pub fn signal_in(program: &Program, processor: usize, slot: Slot) -> u16
+    requires { (processor < 16) × (slot.0 < 256) }
     ensures { result ≡ signal_at program.now processor slot.0 }
 {
     words::word_at(program, line_offset(processor, slot) + SIGNAL)
 }
 
 // What the pair at a place names.
-fn named_in(program: &[u8], at: usize) -> Operand
+fn named_in(program: &Program, at: usize) -> Operand
     requires { at + 2 ≤ length program.now }
     ensures { result ≡ operand_of (get_or program.now at 0) (get_or program.now (at + 1) 0) }
 {
@@ -210,8 +206,8 @@ fn named_in(program: &[u8], at: usize) -> Operand
 }
 
 // The line of a processor and a slot, decoded.
-pub fn instruction_in(program: &[u8], processor: usize, slot: Slot) -> Instruction
-    requires { (length program.now ≡ program_length) × (processor < 16) × (slot.0 < 256) }
+pub fn instruction_in(program: &Program, processor: usize, slot: Slot) -> Instruction
+    requires { (processor < 16) × (slot.0 < 256) }
     ensures { result ≡ instruction_in program.now processor slot.0 }
 {
     let at = line_offset(processor, slot);

@@ -11,6 +11,8 @@ ghost use Rattle.buffers_tables.specs.Panel.{panel_length, processors_in, slots_
 ghost use Rattle.machine_slot.specs.Held.{network_of, module_of, hands_of};
 ghost use Rattle.machine_run.specs.Running.{cycle_in, watch_of, run_in, Watching};
 
+use buffers_memory::Memory;
+use buffers_tables::Panel;
 use clock::{Cycle, Slot};
 use instruction::Operand;
 use machine_slot::Machine;
@@ -30,7 +32,7 @@ pub struct Ran {
 }
 
 // The slots of a cycle, one after the other.
-fn run_slots(machine: &Machine, memory: &mut [u8])
+fn run_slots(machine: &Machine, memory: &mut Memory)
     requires memory_bytes { MemoryBytes memory.old }
     ensures { memory.new ≡ with_memory (processors_in machine.now.panel.now) (slots_in machine.now.panel.now) (slots_done (network_of machine.now) (module_of machine.now) (hands_of machine.now) (slots_in machine.now.panel.now) (memory_of memory.old)) memory.old }
 {
@@ -40,7 +42,7 @@ fn run_slots(machine: &Machine, memory: &mut [u8])
 }
 
 // One cycle: every slot, and then "Halves alternate".
-fn run_cycle(machine: &Machine, memory: &mut [u8])
+fn run_cycle(machine: &Machine, memory: &mut Memory)
     requires memory_bytes { MemoryBytes memory.old }
     ensures { memory.new ≡ with_memory (processors_in machine.now.panel.now) (slots_in machine.now.panel.now) (cycle_in machine.now.panel.now machine.now.program.now (memory_of memory.old)) memory.old }
 {
@@ -57,8 +59,8 @@ fn shows(mask: u8, value: u8) -> bool
 }
 
 // The value of a signal at the end of the last finished cycle: that of its place, in the half that this cycle stored.
-pub fn value_of(panel: &[u8], memory: &[u8], signal: u16) -> u8
-    requires panel_len { (length panel.now ≡ panel_length) × (signal ≤ 4096) × (processor_in panel.now signal < 16) }
+pub fn value_of(panel: &Panel, memory: &Memory, signal: u16) -> u8
+    requires placed { (signal ≤ 4096) × (processor_in panel.now signal < 16) }
     requires memory_bytes { MemoryBytes memory.now }
     ensures { (result ≡ (memory_of memory.now).earlier_local (processor_in panel.now signal) (slot_in panel.now signal)) × Code result }
 {
@@ -69,7 +71,7 @@ pub fn value_of(panel: &[u8], memory: &[u8], signal: u16) -> u8
 }
 
 // "A run stops after the first cycle whose end shows a watched value, else after k."
-pub fn run(machine: &Machine, memory: &mut [u8], watch: Watch, cycles: Cycle) -> Ran
+pub fn run(machine: &Machine, memory: &mut Memory, watch: Watch, cycles: Cycle) -> Ran
     requires watching { Watching machine.now.panel.now (watch_of watch) }
     requires memory_bytes { MemoryBytes memory.old }
     ensures { (result.done.0 ≡ (run_in machine.now.panel.now machine.now.program.now (watch_of watch) cycles.0 (memory_of memory.old)).count) × (result.stopped ≡ (run_in machine.now.panel.now machine.now.program.now (watch_of watch) cycles.0 (memory_of memory.old)).stopped) × (memory.new ≡ with_memory (processors_in machine.now.panel.now) (slots_in machine.now.panel.now) (run_in machine.now.panel.now machine.now.program.now (watch_of watch) cycles.0 (memory_of memory.old)).state memory.old) }

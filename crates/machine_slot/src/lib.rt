@@ -13,7 +13,8 @@ ghost use Rattle.buffers_tables.specs.Tables.{Tables};
 ghost use Rattle.machine_slot.specs.Single.{tables_single};
 ghost use Rattle.machine_slot.specs.Storing.{gate_on, evaluated_on, evaluated, FirstAre, storing, stored_if, passed};
 
-use buffers_memory::{LOCAL_PRESENT, SWITCH_PRESENT};
+use buffers_memory::{LOCAL_PRESENT, Memory, SWITCH_PRESENT};
+use buffers_tables::{Panel, Program};
 use clock::Slot;
 use gates::TruthTables;
 use instruction::Instruction;
@@ -23,8 +24,8 @@ use instruction::Instruction;
 #[derive(Drop)]
 pub struct Machine<'a> {
     pub tables: &'a TruthTables,
-    pub panel: &'a [u8],
-    pub program: &'a [u8],
+    pub panel: &'a Panel,
+    pub program: &'a Program,
     pub processors: usize,
     pub slots: u16,
     pub ghost in_range: { Tables panel.now program.now } by { tables_single panel.now program.now },
@@ -36,7 +37,7 @@ impl<'a> Machine<'a> {
     ghost use Rattle.machine_slot.specs.Held.{network_of, module_of, hands_of};
 
     // The machine that the working tables hold.
-    pub fn new(tables: &'a TruthTables, panel: &'a [u8], program: &'a [u8]) -> Machine<'a>
+    pub fn new(tables: &'a TruthTables, panel: &'a Panel, program: &'a Program) -> Machine<'a>
         requires { Tables panel.now program.now }
         ensures { (result.panel.now ≡ panel.now) × (result.program.now ≡ program.now) }
     {
@@ -50,7 +51,7 @@ impl<'a> Machine<'a> {
     }
 
     // The result of a line's gate: its operands are fetched, and the codes of its signal applied.
-    fn gate_on(&self, memory: &[u8], processor: usize, line: Instruction) -> u8
+    fn gate_on(&self, memory: &Memory, processor: usize, line: Instruction) -> u8
         requires line_bound { (processor < 16) × (line.signal ≤ 4096) }
         requires memory_bytes { MemoryBytes memory.now }
         requires legal { Legal (codes_in self.now.panel.now line.signal) }
@@ -68,7 +69,7 @@ impl<'a> Machine<'a> {
 
     // "Its gate's result, or its input's value for cycle t", which is the value in hand. An empty slot is not evaluated. The line is
     // decoded behind the tests: what is decoded before them has to be kept over them.
-    fn evaluate(&self, memory: &[u8], processor: usize, slot: Slot) -> u8
+    fn evaluate(&self, memory: &Memory, processor: usize, slot: Slot) -> u8
         requires place { (processor < processors_in self.now.panel.now) × (slot.0 < slots_in self.now.panel.now) }
         requires memory_bytes { MemoryBytes memory.now }
         ensures { result ≡ evaluated_on self.now.panel.now (memory_of memory.now) processor (instruction_in self.now.program.now processor slot.0) }
@@ -86,7 +87,7 @@ impl<'a> Machine<'a> {
 
     // "every processor fetches first": what each stores locally and what it sends. What it sends is fetched before its gate is
     // evaluated, and so is not kept meanwhile.
-    fn fetch_all(&self, memory: &[u8], slot: Slot, results: &mut [u8; 16], sent: &mut [u8; 16])
+    fn fetch_all(&self, memory: &Memory, slot: Slot, results: &mut [u8; 16], sent: &mut [u8; 16])
         requires memory_bytes { MemoryBytes memory.now }
         requires slot_bound { slot.0 < slots_in self.now.panel.now }
         ensures results_are { FirstAre (processors_in self.now.panel.now) (λ p. evaluated (network_of self.now) (module_of self.now) (hands_of self.now) (memory_of memory.now) p slot.0) results.new }
@@ -106,9 +107,8 @@ impl<'a> Machine<'a> {
         slot: Slot,
         results: &[u8; 16],
         sent: &[u8; 16],
-        memory: &mut [u8],
+        memory: &mut Memory,
     )
-        requires memory_size { length memory.old ≡ memory_length }
         requires place { (processor < processors_in self.now.panel.now) × (slot.0 < slots_in self.now.panel.now) }
         ensures { memory.new ≡ written (here processor slot.0) (storing (module_of self.now) slot.0 results.now sent.now (memory_of memory.old)) memory.old }
     {
@@ -118,8 +118,7 @@ impl<'a> Machine<'a> {
     }
 
     // "then stores": every processor.
-    fn store_all(&self, slot: Slot, results: &[u8; 16], sent: &[u8; 16], memory: &mut [u8])
-        requires memory_size { length memory.old ≡ memory_length }
+    fn store_all(&self, slot: Slot, results: &[u8; 16], sent: &[u8; 16], memory: &mut Memory)
         requires slot_bound { slot.0 < slots_in self.now.panel.now }
         ensures { memory.new ≡ written (passed (processors_in self.now.panel.now) slot.0) (storing (module_of self.now) slot.0 results.now sent.now (memory_of memory.old)) memory.old }
     {
@@ -129,7 +128,7 @@ impl<'a> Machine<'a> {
     }
 
     // "In slot i every processor fetches first, then stores."
-    pub fn run_slot(&self, slot: Slot, memory: &mut [u8])
+    pub fn run_slot(&self, slot: Slot, memory: &mut Memory)
         requires memory_bytes { MemoryBytes memory.old }
         requires slot_bound { slot.0 < slots_in self.now.panel.now }
         ensures { memory.new ≡ with_memory (processors_in self.now.panel.now) (slots_in self.now.panel.now) (slot_done (network_of self.now) (module_of self.now) (hands_of self.now) slot.0 (memory_of memory.old)) memory.old }
@@ -143,8 +142,8 @@ impl<'a> Machine<'a> {
 }
 
 // The result "goes to local location i", in the present half. "An empty slot stores no local value".
-fn store_result(signal: u16, processor: usize, slot: Slot, value: u8, memory: &mut [u8])
-    requires { (length memory.old ≡ memory_length) × (processor < 16) × (slot.0 < 256) }
+fn store_result(signal: u16, processor: usize, slot: Slot, value: u8, memory: &mut Memory)
+    requires { (processor < 16) × (slot.0 < 256) }
     ensures { memory.new ≡ stored_if (not (eqb signal 0)) memory.old (place processor local_present slot.0) value }
 {
     if signal != 0 {
@@ -153,8 +152,8 @@ fn store_result(signal: u16, processor: usize, slot: Slot, value: u8, memory: &m
 }
 
 // "the received value goes to switch location i", in the present half; "a slot that receives none stores no switch value".
-fn store_received(sender: u8, processor: usize, slot: Slot, sent: &[u8; 16], memory: &mut [u8])
-    requires memory_size { (length memory.old ≡ memory_length) × (processor < 16) × (slot.0 < 256) }
+fn store_received(sender: u8, processor: usize, slot: Slot, sent: &[u8; 16], memory: &mut Memory)
+    requires memory_size { (processor < 16) × (slot.0 < 256) }
     requires sender_in_bounds { (sender ≡ no_sender → ⊥) → sender < 16 }
     ensures { memory.new ≡ stored_if (not (eqb sender no_sender)) memory.old (place processor switch_present slot.0) (get_or sent.now sender 0) }
 {

@@ -5,5 +5,5 @@ use Rattle.buffers_memory.proofs.exchange.Goals as goal
 
 pub returns : goal.returns
 returns c =
-    exchanged c.args.processor c.args.location c.requires.1 c.requires.2 _ _ _ c.requires.0 _ _ _ _ (omega arith) (omega arith) (omega arith) (omega arith)
+    exchanged c.args.processor c.args.location c.requires.0 c.requires.1 _ _ _ (omega arith) _ _ _ _ (omega arith) (omega arith) (omega arith) (omega arith)
     c.swap.ensures.by_index c.swap-2.ensures.by_index

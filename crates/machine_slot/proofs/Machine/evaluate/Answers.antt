@@ -13,7 +13,7 @@ returns-then-signal-eq0 c = rw (← (c.from-signal.ensures ∙ c.signal_in.ensur
 
 pub kind-requires : goal.kind-requires
 kind-requires c =
-    (c.args.self.now.in_range.panel_size, rw (c.from-signal.ensures ∙ c.signal_in.ensures) (line_signal c.args.self.now.in_range c.requires.place.0 c.requires.place.1))
+    rw (c.from-signal.ensures ∙ c.signal_in.ensures) (line_signal c.args.self.now.in_range c.requires.place.0 c.requires.place.1)
 
 pub returns-then-kind-eq1 : goal.returns-then-kind-eq1
 unfolding evaluated_on

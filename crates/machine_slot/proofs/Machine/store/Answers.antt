@@ -15,6 +15,6 @@ pub returns : goal.returns
 unfolding module_in
 returns c =
     let machine = c.args.self.now in
-    both_stored (module_of machine) _ _ _ _ c.requires.memory_size _
+    both_stored (module_of machine) _ _ _ c.args.memory.now (omega arith) _
     (omega (arith, machine.in_range.processors_high, c.requires.place.0)) (omega (arith, machine.in_range.slots_high, c.requires.place.1)) _ _
     (rw c.instruction_in-line.ensures at c.store_result.ensures) (rw c.instruction_in-line.ensures at c.store_received.ensures)

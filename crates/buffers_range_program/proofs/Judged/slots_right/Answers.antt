@@ -4,8 +4,8 @@ use Rattle.logic.specs.Test.{all}
 use Rattle.logic.proofs.Judged.{connected}
 use Rattle.logic.proofs.Ranges.{all_in_range}
 use Rattle.buffers_range_program.specs.Order.{slot_at, slots_at}
-use Rattle.buffers_range_program.proofs.Program.slots_right.Goals as goal
-use Rattle.buffers_range_program.proofs.Program.slots_right.Goals.{After-all}
+use Rattle.buffers_range_program.proofs.Judged.slots_right.Goals as goal
+use Rattle.buffers_range_program.proofs.Judged.slots_right.Goals.{After-all}
 
 every : (c : After-all) → c.all.result
     ≡ all c.args.self.now.slots (λ i. slot_at c.args.self.now.bytes.now i c.args.self.now.signals c.args.self.now.processors c.args.self.now.slots)

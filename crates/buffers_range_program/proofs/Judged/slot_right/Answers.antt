@@ -5,8 +5,8 @@ use Rattle.logic.proofs.Judged.{connected}
 use Rattle.logic.proofs.Ranges.{all_in_range}
 use Rattle.buffers_tables.specs.Program.{line_stride, slot_start}
 use Rattle.buffers_range_program.specs.Order.{line_at, slot_at}
-use Rattle.buffers_range_program.proofs.Program.slot_right.Goals as goal
-use Rattle.buffers_range_program.proofs.Program.slot_right.Goals.{After-all}
+use Rattle.buffers_range_program.proofs.Judged.slot_right.Goals as goal
+use Rattle.buffers_range_program.proofs.Judged.slot_right.Goals.{After-all}
 
 every : (c : After-all) → c.all.result
     ≡ all c.from-lines.result
