@@ -1,16 +1,26 @@
 -- The line of signal k + 1, which is line k + 2: what its check answers.
-use Prim.Native.Nat.{ℕ, suc, ◌+◌, ◌*◌}
+use Prim.Native.Nat.{ℕ, suc, ◌+◌, ◌*◌, ◌≤◌}
 use mathlib.Core.Path.{◌≡◌, sym, ◌∙◌, ap}
-use mathlib.Core.Bool.{true, false}
+use mathlib.Core.Bool.{Bool, true, false}
 use mathlib.Core.List.{List}
 use native.Mathlib.Omega.{arith}
 use native.Mathlib.Numerals.{add-one}
-use Rattle.fields.specs.Line.{is_line_at}
+use lib.Dec.{eqb}
+use lib.ListN.{get_or}
+use Rattle.fields.specs.Line.{newline, is_line_at}
+use Rattle.fields.proofs.Lines.{FieldsRight, fields_end}
 use Rattle.model.specs.Refusal.{Check, pass, fail, unless}
 use Rattle.model.specs.Netlist.{net_signal, sources_right}
 use Rattle.model.proofs.Refusals.{unless_pass}
 use Rattle.file_lines.proofs.Lines.{test_stops, test_goes_on, test_fails}
 use Rattle.file_net_line.specs.Layout.{signal_layout}
+
+-- all fields are right, so byte 10 decides
+pub line_ends : {net : List ℕ} {at k : ℕ} → FieldsRight net at 12 k (at + 6 * k) → 12 ≤ k
+    → {r : Bool} → r ≡ eqb (get_or net (at + 72) 0) newline → is_line_at net at 12 ≡ r
+line_ends {at = at} {k = k} read end e =
+    let here : at + 72 ≡ at + 6 * k = omega (arith, read.few) in
+    fields_end read end (rw here at e)
 
 abbrev pub signals : List ℕ → ℕ → Check
 signals net k = net_signal net (suc k)
