@@ -144,7 +144,7 @@ pub fn run_one(
     program: &[u8],
     memory: &mut [u8],
 ) -> Session
-    requires ready { Ready session panel.now program.now memory.old }
+    requires { Ready session panel.now program.now memory.old }
     ensures one_more { OneMore session result }
     ensures memory_after { memory.new ≡ with_memory (processors_in panel.now) (slots_in panel.now) (cycle_in panel.now program.now (memory_of memory.old)) memory.old }
 {

@@ -32,8 +32,8 @@ take_settings-settled-requires-clause-line_bound c = stands_few c.requires.stand
 pub take_settings-settled-requires-clause-panel_len : goal.take_settings-settled-requires-clause-panel_len
 take_settings-settled-requires-clause-panel_len c = (c.requires.standing.stands.right.sizes.panel_size, right_signals c.requires.standing.stands.right)
 
-pub run_one-after-requires-clause-ready : goal.run_one-after-requires-clause-ready
-run_one-after-requires-clause-ready c =
+pub run_one-after-requires : goal.run_one-after-requires
+run_one-after-requires c =
     later_ready _ (at_count c.requires.standing.stands) c.if-pieces-eq0.false c.if-last-pieces.false c.take_settings-settled.ensures.fed c.take_settings-settled.ensures.fact c.take_settings-settled.ensures.same_numbers
 
 pub write_changes-length-requires-2-clause-panel_len : goal.write_changes-length-requires-2-clause-panel_len
