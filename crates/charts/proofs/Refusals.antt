@@ -1,25 +1,22 @@
 -- Laws of the refusals: lengths, counts, each chosen signal and each value decide as the code asks for them.
 use Prim.Native.Nat.{ℕ, ◌≤◌, ◌<◌}
-use mathlib.Core.Path.{◌≡◌, refl, subst}
-use mathlib.Core.Bool.{Bool, true, false}
+use mathlib.Core.Path.{◌≡◌, refl}
+use mathlib.Core.Bool.{true}
 use mathlib.Core.List.{List}
 use native.Mathlib.Omega.{arith}
-use lib.ListN.{length}
+use lib.ListN.{length, get_or}
+use mathlib.Core.Logic.{◌⊎◌, ⊎_elim}
 use borrow.Author.Tests.{eqb-true, eq-eqb, le-leb, lt-leb, leb-true}
 use Rattle.logic.specs.Test.{◌and◌}
 use Rattle.logic.proofs.Tests.{and_true, and_left, and_right}
-use Rattle.model.specs.Refusal.{pass, fail, unless, first_below}
+use Rattle.model.specs.Refusal.{pass, fail, unless}
 use Rattle.model.specs.Session.{same_lengths}
-use Rattle.model.proofs.Refusals.{first_left, first_right, unless_true, unless_pass, below_pass, below_first}
-use Rattle.session_answers.proofs.Recorded.{recorded_above}
+use Rattle.model.proofs.Refusals.{first_left, first_right, unless_true, unless_pass}
+use Rattle.session_answers.proofs.Recorded.{recorded_same}
+use Rattle.session_answers.proofs.Calls.{unless_fails}
+use Rattle.session_answers.specs.Recorded.{recorded_checks}
 use Rattle.charts.specs.Page.{page_signals, page_cycles, signals_length, record_length, page_length, chosen, charted, last_cycle}
 use Rattle.charts.specs.Checks.{chart_lent, chart_fixed, lent_check, on_page, counts_check, signal_check, value_check, row_check, chart_check}
-
--- a test that cannot pass refuses
-cannot : (test : Bool) (number returned : ℕ) → (test ≡ true → ⊥) → unless test number returned ≡ fail number returned
-unfolding unless
-cannot true number returned d = absurd (d refl)
-cannot false number returned d = refl
 
 module _ (signals values page : List ℕ) where
   -- buffers of the right lengths
@@ -40,7 +37,7 @@ module _ (signals values page : List ℕ) where
 
   pub lent_wrong : (ChartSizes → ⊥) → lent_check signals values page ≡ fail 40 0
   unfolding lent_check
-  lent_wrong d = cannot _ 40 0 (λ e. d (lengths e))
+  lent_wrong d = unless_fails _ 40 0 (λ e. d (lengths e))
 
   pub lent_pass : ChartSizes → lent_check signals values page ≡ pass
   unfolding lent_check same_lengths
@@ -77,7 +74,7 @@ module _ (count first_cycle cycles : ℕ) where
 
   pub counts_wrong : (ChartCounts → ⊥) → counts_check count first_cycle cycles ≡ fail 46 0
   unfolding counts_check
-  counts_wrong d = cannot _ 46 0 (λ e. d (counted e))
+  counts_wrong d = unless_fails _ 46 0 (λ e. d (counted e))
 
   pub counts_pass : ChartCounts → counts_check count first_cycle cycles ≡ pass
   unfolding counts_check on_page
@@ -94,31 +91,21 @@ module _ (count first_cycle cycles : ℕ) where
 
 -- the signal that was read for line k
 module _ (signals : List ℕ) (k : ℕ) {s : ℕ} (e : s ≡ chosen signals k) where
-  pub signal_zero : s ≡ 0 → signal_check signals k ≡ fail 41 0
+  pub signal_wrong : (s ≡ 0) ⊎ ((s ≡ 0 → ⊥) × (4096 < s)) → signal_check signals k ≡ fail 41 s
   unfolding signal_check unless ◌and◌
-  signal_zero z = rw (← e, z)
-
-  pub signal_above : 4096 < s → signal_check signals k ≡ fail 41 s
-  unfolding signal_check unless ◌and◌
-  signal_above h = rw (← e, le-leb 1 s (omega arith), lt-leb s 4096 h)
+  signal_wrong wrong =
+      rw (← e) (⊎_elim (λ z. rw z) (λ h. rw (le-leb 1 s (omega (arith, h.1)), lt-leb s 4096 h.1)) wrong)
 
   pub signal_right : (s ≡ 0 → ⊥) → s ≤ 4096 → signal_check signals k ≡ pass
   unfolding signal_check unless ◌and◌
   signal_right some h = rw (← e, le-leb 1 s (omega arith), le-leb s 4096 h)
 
--- line k, its values before cycle c being right
-module _ (values : List ℕ) (cycles k c : ℕ) (before : first_below c (value_check values k) ≡ pass) where
-  pub row_right : c ≤ cycles → cycles ≤ c → row_check values cycles k ≡ pass
-  unfolding row_check
-  row_right low high =
-      let end : c ≡ cycles = omega arith in
-      subst (λ (m : ℕ). first_below m (value_check values k) ≡ pass) end before
-
-  pub row_wrong : c < cycles → 3 < charted values k c → row_check values cycles k ≡ fail 42 (charted values k c)
+-- the values of line k
+module _ (values : List ℕ) (cycles k : ℕ) (row : List ℕ) (size : length row ≡ cycles)
+    (recorded : (c : ℕ) → c < cycles → get_or row c 0 ≡ charted values k c) where
+  pub row_recorded : recorded_checks row ≡ row_check values cycles k
   unfolding row_check value_check
-  row_wrong low above =
-      below_first cycles (value_check values k)
-      (record { at = c; low = low; fails = recorded_above (charted values k c) above; before = below_pass c (value_check values k) before })
+  row_recorded = recorded_same row cycles (charted values k) size recorded
 
 -- what a call that is not refused has been lent
 module _ (signals values page : List ℕ) (count first_cycle cycles : ℕ) (e : chart_check signals values page count first_cycle cycles ≡ pass) where

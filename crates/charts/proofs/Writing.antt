@@ -1,13 +1,17 @@
 -- Texts stored one after the other: a list byte by byte, the two kinds of lines from their pieces, the page line by line.
 use Prim.Native.Nat.{ℕ, zero, suc, ◌+◌, ◌-◌, ◌*◌, ◌<◌, ◌≤◌}
-use mathlib.Core.Path.{◌≡◌, refl, ◌∙◌, ap}
+use mathlib.Core.Path.{◌≡◌, refl, sym, ◌∙◌, ap, ap₂}
+use Rattle.std.proofs.Common.{append_assoc}
+use borrow.Rule.Slice.PartMut.{put_mid}
+use Rattle.fields.specs.Field.{space}
+use Rattle.std.proofs.lemmas.List.{drop-drop, length-take, length-drop, length-replicate, get_or-replicate}
 use mathlib.Core.List.{List, [], ◌∷◌, ◌++◌}
 use native.Mathlib.Omega.{arith}
 use native.Mathlib.Numerals.{add-one}
-use lib.ListN.{length, set, drop, length-append}
+use lib.ListN.{length, set, take, drop, get_or, replicate, length-append}
 use lib.Seq.{sets, length-sets, sets-eq}
 use Rattle.logic.specs.Listed.{listed}
-use Rattle.logic.proofs.Listed.{listed_length, listed_more}
+use Rattle.logic.proofs.Listed.{listed_length, listed_more, listed_same, is_listed}
 use Rattle.writing.specs.Text.{field_text}
 use Rattle.writing.proofs.Writing.{length_text, sets_append}
 use Rattle.model.specs.Listing.{joined}
@@ -18,6 +22,24 @@ use Rattle.charts.specs.Text.{spaces, head_text, row_text, chart_row, page_text,
 module _ (l xs ys : List ℕ) (i j : ℕ) {mid last : List ℕ} where
   pub joins : last ≡ sets mid j ys → mid ≡ sets l i xs → j ≡ i + length xs → last ≡ sets l i (xs ++ ys)
   joins e m place = e ∙ ap (λ (r : List ℕ). sets r j ys) m ∙ sets_append l xs ys i j place
+
+-- a part of a buffer, written whole
+pub put_sets : (l xs : List ℕ) (at k : ℕ) → k ≡ length xs → at + k ≤ length l → put_mid at k l xs ≡ sets l at xs
+put_sets l xs at k size inside =
+    ap (λ (r : List ℕ). take at l ++ (xs ++ r)) (drop-drop k at l ∙ ap (λ (n : ℕ). drop (at + n) l) size)
+    ∙ sym (append_assoc (take at l) xs (drop (at + length xs) l))
+    ∙ sym (sets-eq xs l at (omega arith))
+
+pub spaces_filled : (n : ℕ) → replicate n space ≡ spaces n
+spaces_filled n = is_listed (replicate n space) n (λ _. space) (length-replicate n space) (λ i low. get_or-replicate n i space 0 low)
+
+pub spaces_put : (l new : List ℕ) (at count : ℕ) → at + count ≤ length l → new ≡ replicate (length (take (at + count - at) (drop at l))) space
+    → put_mid at (at + count - at) l new ≡ sets l at (spaces count)
+spaces_put l new at count inside e =
+    let part : at + count - at ≡ count = omega arith in
+    let size : length (take (at + count - at) (drop at l)) ≡ count = omega (arith, length-take (at + count - at) (drop at l), length-drop at l) in
+    ap₂ (λ (k : ℕ) (xs : List ℕ). put_mid at k l xs) part (e ∙ ap (λ (n : ℕ). replicate n space) size ∙ spaces_filled count)
+    ∙ put_sets l (spaces count) at count (sym (listed_length count (λ _. space))) inside
 
 -- pieces of one length
 pub length_joined : (w : ℕ) (f : ℕ → List ℕ) → ((k : ℕ) → length (f k) ≡ w) → (n : ℕ) → length (joined n f) ≡ w * n
@@ -118,14 +140,20 @@ module _ (signal cycles : ℕ) (value : ℕ → ℕ) where
 
     module _ (at : ℕ) (l a b c d : List ℕ) where
       pub row_stored : a ≡ sets l at (field_text signal) → b ≡ sets a (at + number_columns) (spaces 2) → c ≡ sets b (at + value_column) glyphs
-          → d ≡ sets c (at + value_column + cycles) (spaces (line_columns - (value_column + cycles)))
+          → d ≡ sets c (at + (value_column + cycles)) (spaces (line_columns - (value_column + cycles)))
           → set d (at + line_columns) 10 ≡ sets l at (row_text signal cycles value)
       unfolding row_text
       row_stored ea eb ec ed =
           let two = joins l (field_text signal) (spaces 2) at (at + number_columns) eb ea (omega (arith, length_text signal)) in
           let three = joins l number_text glyphs at (at + value_column) ec two (omega (arith, length_number)) in
-          let four = joins l values_text (spaces (line_columns - (value_column + cycles))) at (at + value_column + cycles) ed three (omega (arith, length_values)) in
+          let four = joins l values_text (spaces (line_columns - (value_column + cycles))) at (at + (value_column + cycles)) ed three (omega (arith, length_values)) in
           joins l row_columns (10 ∷ []) at (at + line_columns) refl four (omega (arith, length_row_columns))
+
+row_same : (signal cycles : ℕ) {f g : ℕ → ℕ} → ((c : ℕ) → c < cycles → f c ≡ g c) → row_text signal cycles f ≡ row_text signal cycles g
+unfolding row_text
+row_same signal cycles same =
+    ap (λ (t : List ℕ). field_text signal ++ spaces 2 ++ t ++ spaces (line_columns - (value_column + cycles)) ++ 10 ∷ [])
+    (listed_same cycles _ _ (λ c low. ap glyph (same c low)))
 
 -- the lines of the signals
 module _ (signals values : List ℕ) (cycles : ℕ) (few : cycles ≤ page_cycles) where
@@ -135,12 +163,13 @@ module _ (signals values : List ℕ) (cycles : ℕ) (few : cycles ≤ page_cycle
   pub length_rows : (k : ℕ) → length (joined k (chart_row signals values cycles)) ≡ line_bytes * k
   length_rows = length_joined line_bytes (chart_row signals values cycles) length_each
 
-  pub rows_more : {l out next : List ℕ} {n k signal : ℕ} → StoredUpTo l line_bytes (chart_row signals values cycles) n k out → k < n
-      → signal ≡ chosen signals k → next ≡ sets out (line_bytes * (k + 1)) (row_text signal cycles (charted values k))
+  pub rows_more : {l out next : List ℕ} {n k signal : ℕ} (row : List ℕ) → StoredUpTo l line_bytes (chart_row signals values cycles) n k out → k < n
+      → signal ≡ chosen signals k → length row ≡ cycles → ((c : ℕ) → c < cycles → get_or row c 0 ≡ charted values k c)
+      → next ≡ sets out (line_bytes * (k + 1)) (row_text signal (length row) (λ c. get_or row c 0))
       → StoredUpTo l line_bytes (chart_row signals values cycles) n (k + 1) next
-  rows_more {out = out} {k = k} stored h is e =
+  rows_more {out = out} {k = k} row stored h is size same e =
       stored_more stored line_bytes {place = line_bytes * (k + 1)} length_each h (omega arith)
-      (e ∙ ap (λ (s : ℕ). sets out (line_bytes * (k + 1)) (row_text s cycles (charted values k))) is)
+      (e ∙ ap (sets out (line_bytes * (k + 1))) (ap₂ (λ (s n : ℕ). row_text s n (λ c. get_or row c 0)) is size ∙ row_same (chosen signals k) cycles same))
 
 -- the whole page
 module _ (signals values : List ℕ) (count first_cycle cycles : ℕ) (few : cycles ≤ page_cycles) where

@@ -3,18 +3,22 @@
 
 #![tactic(auto)]
 
-ghost use Rattle.std.specs.Prelude.{◌≡◌, ◌+◌, ◌≤◌, length, get_or};
+ghost use Rattle.std.specs.Prelude.{◌≡◌, ℕ, ◌+◌, ◌<◌, ◌≤◌, length, get_or};
 ghost use Rattle.std.proofs.lemmas.List.Edits.{sets};
 ghost use Rattle.logic.specs.Listed.{listed};
 ghost use Rattle.model.specs.Listing.{joined};
+ghost use Rattle.file_lines.specs.Answer.{Answers};
 ghost use Rattle.session_answers.specs.Answers.{check_bits};
-ghost use Rattle.session_answers.specs.Left.{left_after};
-ghost use Rattle.charts.specs.Page.{page_signals, page_cycles, line_bytes, signals_length, record_length, page_length, glyph as glyph_of, last_cycle};
+ghost use Rattle.session_answers.specs.Left.{left_after, Leaves};
+ghost use Rattle.charts.specs.Page.{page_signals, page_cycles, line_bytes, page_length, charted, glyph as glyph_of, last_cycle};
 ghost use Rattle.charts.specs.Text.{spaces, head_text, row_text, chart_row, page_text, printed_on};
-ghost use Rattle.charts.specs.Checks.{lent_check, counts_check, signals_check, rows_check, chart_check};
-ghost use Rattle.charts.specs.Answer.{chart_refusal, ChartAnswers};
+ghost use Rattle.charts.specs.Checks.{counts_check, signals_check, row_check, rows_check, chart_check};
+ghost use Rattle.charts.specs.Answer.{chart_refusal};
 
 use clock::Cycle;
+use file_lines::Refusal;
+use session_answers::NoSuchValue;
+use std::array::TryFromSliceError;
 
 // The lengths of the three buffers.
 const SIGNALS_BYTES: usize = 112;
@@ -47,154 +51,92 @@ const CYCLES: usize = 12;
 
 const FIRST_VALUE: usize = 8;
 
-const SPACE: u8 = 32;
-
-const NEWLINE: u8 = 10;
-
-// What the call answers: done, or refused by 40, 46, 41 or 42.
-#[derive(Clone, Copy)]
-pub enum ChartAnswer {
-    Done,
+// The refusals of the call: 40, 46, 41 or 42.
+#[derive(Clone, Copy, Debug, PartialEq, Eq)]
+pub enum ChartRefusal {
     WrongLength,
     OffPage,
     NoSuchSignal(u16),
     NoSuchValue(u8),
 }
 
-impl ChartAnswer {
-    // The 64 bits that C gets.
-    pub fn bits(self) -> u64
-        ensures { result ≡ check_bits (chart_refusal self) }
-    {
+impl Refusal for ChartRefusal {
+    ghost use Rattle.charts.specs.Answer.{chart_refusal};
+
+    ghost refusal = { chart_refusal };
+
+    fn told(self) -> (u8, u32) {
         match self {
-            ChartAnswer::Done => 0,
-            ChartAnswer::WrongLength => session_answers::refusal_bits(40, 0),
-            ChartAnswer::OffPage => session_answers::refusal_bits(46, 0),
-            ChartAnswer::NoSuchSignal(signal) => session_answers::refusal_bits(41, signal as u32),
-            ChartAnswer::NoSuchValue(value) => session_answers::refusal_bits(42, value as u32),
+            ChartRefusal::WrongLength => (40, 0),
+            ChartRefusal::OffPage => (46, 0),
+            ChartRefusal::NoSuchSignal(signal) => (41, u32::from(signal)),
+            ChartRefusal::NoSuchValue(value) => (42, u32::from(value)),
         }
     }
 }
 
-// 40: the three lengths.
-fn check_lent(signals: &[u8], values: &[u8], page: &[u8]) -> ChartAnswer
-    ensures { ChartAnswers (lent_check signals.now values.now page.now) result }
-{
-    if signals.len() != SIGNALS_BYTES {
-        return ChartAnswer::WrongLength;
+// A buffer lent with another length than its fixed one.
+impl From<TryFromSliceError> for ChartRefusal {
+    ghost use Rattle.charts.specs.declared.ChartRefusal.TheVariants.{WrongLength};
+
+    ghost from_gives = { λ _ refusal. refusal ≡ WrongLength };
+
+    fn from(_error: TryFromSliceError) -> ChartRefusal {
+        ChartRefusal::WrongLength
     }
-    if values.len() != VALUES_BYTES {
-        return ChartAnswer::WrongLength;
+}
+
+impl From<NoSuchValue> for ChartRefusal {
+    ghost use Rattle.charts.specs.declared.ChartRefusal.TheVariants.{NoSuchValue};
+
+    ghost from_gives = { λ error refusal. refusal ≡ NoSuchValue error.0 };
+
+    fn from(error: NoSuchValue) -> ChartRefusal {
+        ChartRefusal::NoSuchValue(error.0)
     }
-    if page.len() != PAGE_BYTES {
-        return ChartAnswer::WrongLength;
-    }
-    ChartAnswer::Done
 }
 
 // 46: the counts, and the last cycle. It is judged by a difference, since 32 bits may have no room for the sum.
-fn check_counts(count: u32, first: u32, cycles: u32) -> ChartAnswer
-    ensures { ChartAnswers (counts_check count first cycles) result }
+fn check_counts(count: u32, first: u32, cycles: u32) -> Result<(), ChartRefusal>
+    ensures { Answers chart_refusal (tt {0}) (counts_check count first cycles) result }
 {
-    if count == 0 {
-        return ChartAnswer::OffPage;
+    if count == 0 || MOST_SIGNALS < count {
+        return Err(ChartRefusal::OffPage);
     }
-    if MOST_SIGNALS < count {
-        return ChartAnswer::OffPage;
-    }
-    if cycles == 0 {
-        return ChartAnswer::OffPage;
-    }
-    if MOST_CYCLES < cycles {
-        return ChartAnswer::OffPage;
+    if cycles == 0 || MOST_CYCLES < cycles {
+        return Err(ChartRefusal::OffPage);
     }
     if LAST_CYCLE - (cycles - 1) < first {
-        return ChartAnswer::OffPage;
+        return Err(ChartRefusal::OffPage);
     }
-    ChartAnswer::Done
+    Ok(())
 }
 
-// 41: the first chosen signal that there cannot be.
-fn check_signals(signals: &[u8], count: usize) -> ChartAnswer
-    requires { (length signals.now ≡ signals_length) × (count ≤ page_signals) }
-    ensures { ChartAnswers (signals_check signals.now count) result }
-{
-    let mut k: usize = 0;
-    while k < count {
-        let signal = words::word_at(signals, 2 * k);
-        if signal == 0 {
-            return ChartAnswer::NoSuchSignal(0);
-        }
-        if LAST_SIGNAL < signal {
-            return ChartAnswer::NoSuchSignal(signal);
-        }
-        k += 1;
-    }
-    ChartAnswer::Done
-}
-
-// 42: the first value above 3, by line and cycle, of those to be printed; left at it with its value.
-fn check_values(values: &[u8], count: usize, cycles: usize) -> ChartAnswer
-    requires { (length values.now ≡ record_length) × (count ≤ page_signals) × (cycles ≤ page_cycles) }
-    ensures { ChartAnswers (rows_check values.now count cycles) result }
-{
-    let mut answer = ChartAnswer::Done;
-    let mut k: usize = 0;
-    'lines: while k < count {
-        let mut c: usize = 0;
-        while c < cycles {
-            let value = values[ROW * k + c];
-            if 3 < value {
-                answer = ChartAnswer::NoSuchValue(value);
-                break 'lines;
-            }
-            c += 1;
-        }
-        k += 1;
-    }
-    answer
-}
-
-// The refusals, in their order.
-fn check_chart(
-    signals: &[u8],
-    values: &[u8],
-    page: &[u8],
-    count: u32,
-    first: u32,
-    cycles: u32,
-) -> ChartAnswer
-    ensures { ChartAnswers (chart_check signals.now values.now page.now count first cycles) result }
-{
-    let lent = check_lent(signals, values, page);
-    let ChartAnswer::Done = lent else {
-        return lent;
-    };
-    let counts = check_counts(count, first, cycles);
-    let ChartAnswer::Done = counts else {
-        return counts;
-    };
-    let chosen = check_signals(signals, count as usize);
-    let ChartAnswer::Done = chosen else {
-        return chosen;
-    };
-    check_values(values, count as usize, cycles as usize)
+// What a page can carry: the chosen signals, their recorded values, and how many of both are printed.
+#[derive(Drop)]
+struct Plot<'a> {
+    signals: &'a [u8; SIGNALS_BYTES],
+    values: &'a [u8; VALUES_BYTES],
+    count: usize,
+    first: Cycle,
+    cycles: usize,
+    ghost count_high: { count ≤ page_signals },
+    ghost cycles_low: { 1 ≤ cycles },
+    ghost cycles_high: { cycles ≤ page_cycles },
+    ghost last_high: { last_cycle first.0 cycles ≤ 65535 },
 }
 
 // The byte that a value is printed as: 0, 1, U or Z.
+#[tactic(auto, unfolding(crate::specs::Page::glyph))]
 fn glyph(value: u8) -> u8
     ensures { result ≡ glyph_of value }
 {
-    if value == 0 {
-        return 48;
+    match value {
+        0 => b'0',
+        1 => b'1',
+        2 => b'U',
+        _ => b'Z',
     }
-    if value == 1 {
-        return 49;
-    }
-    if value == 2 {
-        return 85;
-    }
-    90
 }
 
 // Spaces, written at a place.
@@ -202,22 +144,16 @@ fn write_spaces(page: &mut [u8], at: usize, count: usize)
     requires { at + count ≤ length page.old }
     ensures { page.new ≡ sets page.old at (spaces count) }
 {
-    let mut k: usize = 0;
-    while k < count {
-        page[at + k] = SPACE;
-        k += 1;
-    }
+    page[at..at + count].fill(b' ');
 }
 
-// The values of some cycles, the first of them at `from`, written at a place.
-fn write_glyphs(page: &mut [u8], at: usize, values: &[u8], from: usize, cycles: usize)
-    requires { (at + cycles ≤ length page.old) × (from + cycles ≤ length values.now) }
-    ensures { page.new ≡ sets page.old at (listed cycles (λ c. glyph_of (get_or values.now (from + c) 0))) }
+// The values of some cycles, written at a place.
+fn write_glyphs(page: &mut [u8], at: usize, values: &[u8])
+    requires { at + length values.now ≤ length page.old }
+    ensures { page.new ≡ sets page.old at (listed (length values.now) (λ c. glyph_of (get_or values.now c 0))) }
 {
-    let mut c: usize = 0;
-    while c < cycles {
-        page[at + c] = glyph(values[from + c]);
-        c += 1;
+    for c in 0..values.len() {
+        page[at + c] = glyph(values[c]);
     }
 }
 
@@ -229,53 +165,109 @@ fn write_head(page: &mut [u8], first: Cycle, last: Cycle)
     writing::write_field(page, 0, first.0);
     writing::write_field(page, NUMBER, last.0);
     write_spaces(page, CYCLES, COLUMNS - CYCLES);
-    page[COLUMNS] = NEWLINE;
+    page[COLUMNS] = b'\n';
 }
 
-// The line of a signal, its values from `from` on, written at a place.
-fn write_row(page: &mut [u8], at: usize, signal: u16, values: &[u8], from: usize, cycles: usize)
-    requires { (at + line_bytes ≤ length page.old) × (from + cycles ≤ length values.now) × (cycles ≤ page_cycles) }
-    ensures { page.new ≡ sets page.old at (row_text signal cycles (λ c. get_or values.now (from + c) 0)) }
+// The line of a signal and its values, written at a place.
+fn write_row(page: &mut [u8], at: usize, signal: u16, values: &[u8])
+    requires { (at + line_bytes ≤ length page.old) × (length values.now ≤ page_cycles) }
+    ensures { page.new ≡ sets page.old at (row_text signal (length values.now) (λ c. get_or values.now c 0)) }
 {
+    let printed = FIRST_VALUE + values.len();
     writing::write_field(page, at, signal);
     write_spaces(page, at + NUMBER, 2);
-    write_glyphs(page, at + FIRST_VALUE, values, from, cycles);
-    write_spaces(
-        page,
-        at + FIRST_VALUE + cycles,
-        COLUMNS - (FIRST_VALUE + cycles),
-    );
-    page[at + COLUMNS] = NEWLINE;
+    write_glyphs(page, at + FIRST_VALUE, values);
+    write_spaces(page, at + printed, COLUMNS - printed);
+    page[at + COLUMNS] = b'\n';
 }
 
-// A line for each chosen signal, behind the first line.
-fn write_rows(signals: &[u8], values: &[u8], page: &mut [u8], count: usize, cycles: usize)
-    requires { (length signals.now ≡ signals_length) × (length values.now ≡ record_length) × (length page.old ≡ page_length) × (count ≤ page_signals) × (cycles ≤ page_cycles) }
-    ensures { page.new ≡ sets page.old line_bytes (joined count (chart_row signals.now values.now cycles)) }
-{
-    let mut k: usize = 0;
-    while k < count {
-        let signal = words::word_at(signals, 2 * k);
-        write_row(page, LINE * (k + 1), signal, values, ROW * k, cycles);
-        k += 1;
+impl<'a> Plot<'a> {
+    // 41: the first chosen signal that there cannot be.
+    fn check_signals(&self) -> Result<(), ChartRefusal>
+        ensures { Answers chart_refusal (tt {0}) (signals_check self.now.signals.now self.now.count) result }
+    {
+        let signals = self.signals;
+        for k in 0..self.count {
+            let signal = words::word_at(signals, 2 * k);
+            if signal == 0 || LAST_SIGNAL < signal {
+                return Err(ChartRefusal::NoSuchSignal(signal));
+            }
+        }
+        Ok(())
+    }
+
+    // The values to be printed in a line.
+    fn row(&self, line: usize) -> &[u8]
+        requires { line < self.now.count }
+        ensures size { length result.now ≡ self.now.cycles }
+        ensures values { (c : ℕ) → c < self.now.cycles → get_or result.now c 0 ≡ charted self.now.values.now line c }
+    {
+        let values = self.values;
+        &values[ROW * line..ROW * line + self.cycles]
+    }
+
+    // 42: the first value above 3, by line and cycle, of those to be printed.
+    fn check_values(&self) -> Result<(), ChartRefusal>
+        ensures { Answers chart_refusal (tt {0}) (rows_check self.now.values.now self.now.count self.now.cycles) result }
+    {
+        for line in 0..self.count {
+            session_answers::check_recorded(self.row(line))?;
+        }
+        Ok(())
+    }
+
+    // A line for each chosen signal, behind the first line.
+    fn write_rows(&self, page: &mut [u8])
+        requires { length page.old ≡ page_length }
+        ensures { page.new ≡ sets page.old line_bytes (joined self.now.count (chart_row self.now.signals.now self.now.values.now self.now.cycles)) }
+    {
+        let signals = self.signals;
+        for k in 0..self.count {
+            let signal = words::word_at(signals, 2 * k);
+            write_row(page, LINE * (k + 1), signal, self.row(k));
+        }
+    }
+
+    // The whole text of a page.
+    fn write_page(&self, page: &mut [u8])
+        requires { length page.old ≡ page_length }
+        ensures { page.new ≡ printed_on page.old (page_text self.now.signals.now self.now.values.now self.now.count self.now.first.0 self.now.cycles) }
+    {
+        let last = Cycle(self.first.0 + ((self.cycles - 1) as u16));
+        write_head(page, self.first, last);
+        self.write_rows(page);
     }
 }
 
-// The whole text of a page.
-fn write_page(
+// Prints the page, or refuses and changes no byte of the page.
+fn chart_checked(
     signals: &[u8],
     values: &[u8],
     page: &mut [u8],
-    count: usize,
-    first: Cycle,
-    cycles: usize,
-)
-    requires { (length signals.now ≡ signals_length) × (length values.now ≡ record_length) × (length page.old ≡ page_length) × (count ≤ page_signals) × (1 ≤ cycles) × (cycles ≤ page_cycles) × (last_cycle first.0 cycles ≤ 65535) }
-    ensures { page.new ≡ printed_on page.old (page_text signals.now values.now count first.0 cycles) }
+    count: u32,
+    first: u32,
+    cycles: u32,
+) -> Result<(), ChartRefusal>
+    ensures { Leaves chart_refusal (chart_check signals.now values.now page.old count first cycles) (printed_on page.old (page_text signals.now values.now count first cycles)) page.old result page.new }
 {
-    let last = Cycle(first.0 + ((cycles - 1) as u16));
-    write_head(page, first, last);
-    write_rows(signals, values, page, count, cycles);
+    let signals: &[u8; SIGNALS_BYTES] = signals.try_into()?;
+    let values: &[u8; VALUES_BYTES] = values.try_into()?;
+    // The buffer that is written stays a slice: no contract of the library says that a `try_into` to a `&mut` array leaves its bytes.
+    if page.len() != PAGE_BYTES {
+        return Err(ChartRefusal::WrongLength);
+    }
+    check_counts(count, first, cycles)?;
+    let plot = Plot {
+        signals,
+        values,
+        count: count as usize,
+        first: Cycle(first as u16),
+        cycles: cycles as usize,
+    };
+    plot.check_signals()?;
+    plot.check_values()?;
+    plot.write_page(page);
+    Ok(())
 }
 
 // Prints a chart page into a buffer. Refused by 40, 46, 41, 42, and then no byte of the page changes.
@@ -290,18 +282,5 @@ pub fn chart(
     ensures answer { result ≡ check_bits (chart_check signals.now values.now page.old count first cycles) }
     ensures page { page.new ≡ left_after (chart_check signals.now values.now page.old count first cycles) (printed_on page.old (page_text signals.now values.now count first cycles)) page.old }
 {
-    let answer = check_chart(signals, values, page, count, first, cycles);
-    let ChartAnswer::Done = answer else {
-        return answer.bits();
-    };
-    let begin = first as u16;
-    write_page(
-        signals,
-        values,
-        page,
-        count as usize,
-        Cycle(begin),
-        cycles as usize,
-    );
-    0
+    session_answers::check_bits(chart_checked(signals, values, page, count, first, cycles))
 }

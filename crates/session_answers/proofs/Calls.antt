@@ -18,14 +18,16 @@ use Rattle.session_answers.specs.Left.{Leaves}
 use Rattle.session_answers.specs.Recorded.{recorded_check}
 use Rattle.session_answers.proofs.Left.{left_done, left_refused}
 
+-- what r says, where it returns the refusal e, itself or by a `?`
+pub exit_told : {A E : Type 0} (refusal : E → Check) {e : E} (r : Result A E) → IsErrAnd r (λ x. x ≡ e) → answered refusal r ≡ refusal e
+exit_told refusal r is = let exit = err_from_is_err_and r is in ap (answered refusal) exit.1 ∙ ap refusal exit.2
+
 module _ {E : Type 0} {refusal : E → Check} {check : Check} {bytes lent left : List ℕ} where
-  -- r returns the refusal e, itself or by a `?`
   pub leaves_lent : {e : E} {r : Result (Unit {0}) E} → Answers refusal (tt {0}) check (Err e) → IsErrAnd r (λ x. x ≡ e) → left ≡ lent
       → Leaves refusal check bytes lent r left
   leaves_lent {r} answers is same =
-      let exit = err_from_is_err_and r is in
       record {
-        answers = ap (answered refusal) exit.1 ∙ ap refusal exit.2 ∙ answers.refuses;
+        answers = exit_told refusal r is ∙ answers.refuses;
         leaves = same ∙ sym (left_refused check bytes lent (refuses answers refl));
       }
 

@@ -1,23 +1,20 @@
 -- A count or a last cycle that no page has is the refusal; with none the check passes.
 use mathlib.Core.Path.{refl}
+use mathlib.Core.Logic.{⊎_elim}
 use native.Mathlib.Omega.{arith}
 use Rattle.file_lines.proofs.Stages.{refused, accepted}
 use Rattle.charts.proofs.Refusals.{counts_wrong, counts_pass}
 use Rattle.charts.proofs.check_counts.Goals as goal
 
 pub returns-then-count-eq0 : goal.returns-then-count-eq0
-returns-then-count-eq0 c = refused refl (counts_wrong _ _ _ (λ r. omega (arith, r.count_low, c.if-count-eq0.true)))
-
-pub returns-then-count-gt-MOST_SIGNALS : goal.returns-then-count-gt-MOST_SIGNALS
-returns-then-count-gt-MOST_SIGNALS c =
-    refused refl (counts_wrong _ _ _ (λ r. omega (arith, r.count_high, c.if-count-gt-MOST_SIGNALS.true)))
+returns-then-count-eq0 c =
+    refused refl
+    (counts_wrong _ _ _ (λ r. ⊎_elim (λ z. omega (arith, r.count_low)) (λ h. omega (arith, r.count_high, h.1)) c.then-count-eq0.either))
 
 pub returns-then-cycles-eq0 : goal.returns-then-cycles-eq0
-returns-then-cycles-eq0 c = refused refl (counts_wrong _ _ _ (λ r. omega (arith, r.cycles_low, c.if-cycles-eq0.true)))
-
-pub returns-then-cycles-gt-MOST_CYCLES : goal.returns-then-cycles-gt-MOST_CYCLES
-returns-then-cycles-gt-MOST_CYCLES c =
-    refused refl (counts_wrong _ _ _ (λ r. omega (arith, r.cycles_high, c.if-cycles-gt-MOST_CYCLES.true)))
+returns-then-cycles-eq0 c =
+    refused refl
+    (counts_wrong _ _ _ (λ r. ⊎_elim (λ z. omega (arith, r.cycles_low)) (λ h. omega (arith, r.cycles_high, h.1)) c.then-cycles-eq0.either))
 
 pub returns-then-cycles-first : goal.returns-then-cycles-first
 returns-then-cycles-first c =
@@ -25,7 +22,7 @@ returns-then-cycles-first c =
 
 pub returns : goal.returns
 returns c =
-    accepted refl refl
+    accepted refl
     (counts_pass _ _ _
     (record {
       count_low = omega (arith, c.if-count-eq0.false);
