@@ -82,6 +82,7 @@ impl<'a> Program<'a> {
     }
 
     // The 16 lines of a slot: those of P processors, and zeros.
+    // A run of records and its zeros is written out here and twice more: one function for the three would take six parameters.
     fn slot_right(&self, slot: Slot) -> bool
         requires { slot.0 < self.now.slots }
         ensures { result ≡ slot_at self.now.bytes.now slot.0 self.now.signals self.now.processors self.now.slots }
