@@ -11,7 +11,7 @@ use buffers_memory::MEMORY_BYTES;
 use buffers_tables::{PANEL_BYTES, PROGRAM_BYTES};
 
 // The three working buffers have the lengths that docs/PANEL.md gives them.
-#[tactic(auto, using(crate::proofs::Sizes::wrong_panel, crate::proofs::Sizes::wrong_program, crate::proofs::Sizes::by_memory))]
+#[tactic(auto, using(logic::proofs::Judged::connected), unfolding(model::specs::Session::same_lengths))]
 pub fn lengths_right(panel: &[u8], program: &[u8], memory: &[u8]) -> bool
     ensures { result ≡ same_lengths (lengths_lent panel.now program.now memory.now) fixed }
 {

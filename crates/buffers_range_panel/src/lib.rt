@@ -39,10 +39,11 @@ fn codes_right(panel: &Panel, signal: usize) -> bool
 {
     let at = PANEL_STRIDE * signal;
     if buffers_tables::kind(panel, signal) == 1 {
-        return buffers_runs::all_zero(panel, at + CODES, 6);
+        buffers_runs::all_zero(panel, at + CODES, 6)
+    } else {
+        gates::is_function(u16::from(panel[at + CODES]))
+            && buffers_runs::all_translations(panel, at + (CODES + 1), 5)
     }
-    gates::is_function(u16::from(panel[at + CODES]))
-        && buffers_runs::all_translations(panel, at + (CODES + 1), 5)
 }
 
 // The numbers of a signal: kind, codes, value in hand, and its place among P processors and C slots.

@@ -11,7 +11,7 @@ use Rattle.std.specs.Prelude.{if◌then◌else◌}
 use Rattle.buffers_range_program.specs.Order.{pair_ranged}
 use Rattle.logic.proofs.Judged.{same_test}
 
-module _ (slots most part k : ℕ) (parts : most < 9) (some : 1 ≤ slots) where
+module _ (slots most part k : ℕ) (parts : most < 9) where
   -- a pair that is none has a part above most
   pub none_fault : one (eqb (part + 256 * k) 9) ≤ one (leb (most + 1) part)
   none_fault = go (eqb (part + 256 * k) 9) refl
@@ -26,11 +26,14 @@ module _ (slots most part k : ℕ) (parts : most < 9) (some : 1 ≤ slots) where
     where
       go : (n : Bool) → eqb (part + 256 * k) 9 ≡ n → (p : Bool) → leb (most + 1) part ≡ p → (l : Bool) → leb slots k ≡ l
           → eqb (one p + one l - one n) 0 ≡ ltb k slots and (if eqb part 9 then eqb k 0 else leb part most)
-      go true e p f l g =
+      go true e p f true g =
           let q = eqb-true (part + 256 * k) 9 e in
-          let s : leb slots k ≡ false = lt-leb slots k (omega arith) in
           let t : leb (most + 1) part ≡ true = le-leb (most + 1) part (omega arith) in
-          rw (← f, ← g, s, t, lt-ltb k slots (omega arith), eq-eqb part 9 (omega arith), eq-eqb k 0 (omega arith))
+          rw (← f, t, le-ltb k slots (leb-true slots k g))
+      go true e p f false g =
+          let q = eqb-true (part + 256 * k) 9 e in
+          let t : leb (most + 1) part ≡ true = le-leb (most + 1) part (omega arith) in
+          rw (← f, t, lt-ltb k slots (leb-false slots k g), eq-eqb part 9 (omega arith), eq-eqb k 0 (omega arith))
       go false e p f true g = rw (le-ltb k slots (leb-true slots k g)) (go2 p)
         where
           go2 : (p : Bool) → eqb (one p + 1 - 0) 0 ≡ false

@@ -45,7 +45,7 @@ impl<'a> Judged<'a> {
     // Parts follow no pattern that a processor could predict, so faults are counted, not branched on.
     #[tactic(auto, using(crate::proofs::Faults::none_fault, crate::proofs::Faults::pair_fault))]
     fn pair_faults(&self, at: usize, most: u16) -> u8
-        requires { (at + 2 ≤ program_length) × (most < 9) × (1 ≤ self.now.slots) }
+        requires { (at + 2 ≤ program_length) × (most < 9) }
         ensures { (eqb result 0 ≡ pair_at self.now.bytes.now at most self.now.slots) × (result ≤ 2) }
     {
         let bytes = self.bytes;
@@ -58,7 +58,7 @@ impl<'a> Judged<'a> {
     // The faults of the four operands of the line at a place: "part 0 to 3 or 9".
     #[tactic(auto, using(crate::proofs::Faults::four_none), unfolding(crate::specs::Order::operands_at))]
     fn operand_faults(&self, at: usize) -> u8
-        requires { (at + line_stride ≤ program_length) × (1 ≤ self.now.slots) }
+        requires { at + line_stride ≤ program_length }
         ensures { (eqb result 0 ≡ operands_at self.now.bytes.now at self.now.slots) × (result ≤ 8) }
     {
         let first = self.pair_faults(at + OPERAND1, 3);
@@ -71,7 +71,7 @@ impl<'a> Judged<'a> {
     // The line at a place: "signal (1 to N, or 0: empty slot)", the operands, "a send 0, 1 or 9", and the processor received from.
     #[tactic(auto, using(logic::proofs::Judged::connected, crate::proofs::Faults::both_none), unfolding(crate::specs::Order::line_at))]
     fn line_right(&self, at: usize) -> bool
-        requires { (at + line_stride ≤ program_length) × (1 ≤ self.now.slots) }
+        requires { at + line_stride ≤ program_length }
         ensures { result ≡ line_at self.now.bytes.now at self.now.signals self.now.processors self.now.slots }
     {
         let bytes = self.bytes;
@@ -81,6 +81,7 @@ impl<'a> Judged<'a> {
     }
 
     // The 16 lines of a slot: those of P processors, and zeros.
+    // A run of records and its zeros is written out here and twice more: one function for the three would take six parameters.
     fn slot_right(&self, slot: Slot) -> bool
         requires { slot.0 < self.now.slots }
         ensures { result ≡ slot_at self.now.bytes.now slot.0 self.now.signals self.now.processors self.now.slots }

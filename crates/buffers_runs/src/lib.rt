@@ -1,4 +1,5 @@
 // Runs of bytes judged by their largest byte, without a way out, so that the compiler takes many bytes at once.
+// A run is a place and a count, as in the definitions: by slices, each caller's proof would carry the slice's bytes back to the buffer.
 
 #![tactic(auto)]
 
