@@ -155,8 +155,8 @@ impl<'a> Graph<'a> {
         }
     }
 
-    // The rank of every node that has one: by a descent, which is quick, and then by passes over the nodes until one
-    // ranks none, which is sure.
+    // The rank of every node that has one, and 0, in a fixed array, for the others: by a descent, which is quick, and then
+    // by passes over the nodes until one ranks none, which is sure.
     pub fn rank_all(&self, ranks: &mut [u16])
         requires ranks_len { length ranks.old ≡ places }
         ensures { Ranked self.now.follow.now self.now.edges.now self.now.size ranks.new }
