@@ -27,11 +27,11 @@ use Rattle.file_checks.proofs.write_refusal.Kinds.{ps as refusal-ps, r as refusa
 use Rattle.file_checks.proofs.write_refusal.Reads.{Learnt as RefusalTells}
 
 -- a step
-pub step_more : (κs : Lfts 8) (a : Dens κs step_ps) (p : (res_t step-r κs).Denot) (left : AtExit (ended_of 8 step_ps step-r) κs)
-    → StepTells κs a p left → length a.1.1.1.1.1.1.1.1.0.now ≡ piece_length → {pieces : List (List ℕ)}
-    → Steps a.1.1.1.0.now a.1.1.1.1.1.0.now p.lister left.1.1.1.1.0.now left.1.1.1.1.1.1.0.now left.1.1.1.1.1.1.1.0.now pieces
-    → Steps a.1.1.1.0.now a.1.1.1.1.1.0.now a.0 a.1.1.1.1.0.now a.1.1.1.1.1.1.0.now a.1.1.1.1.1.1.1.0.now
-    (take p.length left.1.1.1.1.1.1.1.1.0.now ∷ pieces)
+pub step_more : (κs : Lfts 7) (a : Dens κs step_ps) (p : (res_t step-r κs).Denot) (left : AtExit (ended_of 7 step_ps step-r) κs)
+    → StepTells κs a p left → length a.1.1.1.1.1.1.1.0.now ≡ piece_length → {pieces : List (List ℕ)}
+    → Steps a.1.1.0.now a.1.1.1.1.0.now p.lister left.1.1.1.0.now left.1.1.1.1.1.0.now left.1.1.1.1.1.1.0.now pieces
+    → Steps a.1.1.0.now a.1.1.1.1.0.now a.0 a.1.1.1.0.now a.1.1.1.1.1.0.now a.1.1.1.1.1.1.0.now
+    (take p.length left.1.1.1.1.1.1.1.0.now ∷ pieces)
 step_more κs a p left told room rest = more _ p _ _ _ _ room told rest
 
 -- the opening
