@@ -1,10 +1,12 @@
 -- What the buffers' lengths and ranges tell a call, and back.
 use Prim.Native.Nat.{ℕ, ◌≤◌, ◌<◌}
-use mathlib.Core.Path.{◌≡◌, refl, sym, subst, ◌∙◌}
+use mathlib.Core.Path.{◌≡◌, refl}
 use mathlib.Core.Bool.{Bool, true, false}
 use lib.ListN.{length}
-use Rattle.std.specs.Prelude.{if◌then◌else◌}
+use Rattle.std.specs.Prelude.{Result, Ok, Err}
+use Rattle.model.specs.Refusal.{first, unless}
 use Rattle.model.specs.Session.{same_lengths}
+use Rattle.model.proofs.Refusals.{first_left, first_right, unless_true}
 use Rattle.buffers_memory.specs.Memory.{MemoryBytes}
 use Rattle.buffers_tables.specs.Panel.{panel_length, signals_in, processor_in}
 use Rattle.buffers_lengths.specs.Lengths.{fixed, Sizes as SizesOf}
@@ -14,12 +16,12 @@ use Rattle.buffers_range.proofs.Ranged.{head_ranged_lem, ranged_tables, ranged_m
 use Rattle.buffers_tables.specs.Tables.{Tables}
 use Rattle.machine_run.specs.Running.{Watching}
 use Rattle.session_state.specs.Header.{head_in}
-use Rattle.session_answers.specs.declared.CallAnswer.{CallAnswer}
-use Rattle.session_answers.specs.declared.CallAnswer.TheVariants.{WrongLength, OutOfRange}
-use Rattle.session_calls.specs.declared.Ready.{Ready}
-use Rattle.session_calls.specs.declared.Ready.TheVariants.{Right, Refused}
-use Rattle.session_calls.specs.Reply.{Buffers, lengths_of}
-use Rattle.session_calls.specs.Ready.{ready_of}
+use Rattle.file_lines.specs.Answer.{Answers}
+use Rattle.file_lines.proofs.Stages.{refused, accepted, passes}
+use Rattle.session_answers.specs.declared.CallRefusal.{CallRefusal}
+use Rattle.session_answers.specs.declared.CallRefusal.TheVariants.{WrongLength, OutOfRange}
+use Rattle.session_answers.specs.Refusals.{call_refusal}
+use Rattle.session_calls.specs.Reply.{Buffers, lengths_of, ready_check}
 use Rattle.session_calls.proofs.Watched.{ranged_watching, ranged_processor}
 
 -- the lengths are the fixed ones
@@ -29,48 +31,33 @@ Sizes b = SizesOf (length b.panel) (length b.program) (length b.memory)
 abbrev in_range : Buffers → Bool
 in_range b = ranged b.panel b.program b.memory
 
+-- how the code answers
+abbrev pub Judges : Buffers → Result (Unit {0}) CallRefusal → Type 0
+Judges b = Answers call_refusal (tt {0}) (ready_check b)
+
 module _ (b : Buffers) where
   pub same_lengths_lem : Sizes b → same_lengths (lengths_of b) fixed ≡ true
   same_lengths_lem h = sizes_same _ _ _ h
 
-  pub wrong_length : same_lengths (lengths_of b) fixed ≡ false → Refused WrongLength ≡ ready_of b
-  unfolding ready_of
-  wrong_length e = rw e
+  pub wrong_length : same_lengths (lengths_of b) fixed ≡ false → Judges b (Err WrongLength)
+  unfolding ready_check first unless
+  wrong_length e = refused refl (rw e)
 
-  pub out_of_range : same_lengths (lengths_of b) fixed ≡ true → in_range b ≡ false → Refused OutOfRange ≡ ready_of b
-  unfolding ready_of
-  out_of_range l e = rw (l, e)
+  pub out_of_range : same_lengths (lengths_of b) fixed ≡ true → in_range b ≡ false → Judges b (Err OutOfRange)
+  unfolding ready_check first unless
+  out_of_range l e = refused refl (rw (l, e))
 
-  pub in_range_lem : same_lengths (lengths_of b) fixed ≡ true → in_range b ≡ true → Right ≡ ready_of b
-  unfolding ready_of
-  in_range_lem l e = rw (l, e)
-
--- what each finding of the code means of the buffers: a refusal is 40 or 44
-pub data Refuses (b : Buffers) (a : CallAnswer) : Type 0 where
-  by_40 : same_lengths (lengths_of b) fixed ≡ false → WrongLength ≡ a → Refuses b a
-  by_44 : same_lengths (lengths_of b) fixed ≡ true → in_range b ≡ false → OutOfRange ≡ a → Refuses b a
-
-abbrev Means : Buffers → Ready → Type 0
-Means b Right = (same_lengths (lengths_of b) fixed ≡ true) × (in_range b ≡ true)
-Means b (Refused a) = Refuses b a
-
-means : (b : Buffers) (k : Ready) → ready_of b ≡ k → Means b k
-unfolding ready_of
-means b k e = subst (Means b) e (go (same_lengths (lengths_of b) fixed) refl (in_range b) refl)
-  where
-    go : (s : Bool) → same_lengths (lengths_of b) fixed ≡ s → (r : Bool) → in_range b ≡ r
-        → Means b (if s then (if r then Right else Refused OutOfRange) else Refused WrongLength)
-    go true e true f = (e, f)
-    go true e false f = by_44 e f refl
-    go false e r f = by_40 e refl
-
-pub found : (b : Buffers) (r : Ready) (a : CallAnswer) → r ≡ ready_of b → r ≡ Refused a → Refuses b a
-found b r a judged e = means b (Refused a) (sym judged ∙ e)
+  pub in_range_lem : same_lengths (lengths_of b) fixed ≡ true → in_range b ≡ true → Judges b (Ok (tt {0}))
+  unfolding ready_check first unless
+  in_range_lem l e = accepted refl (rw (l, e))
 
 -- what the code goes by where it judged them right
-module _ (b : Buffers) (r : Ready) (judged : r ≡ ready_of b) (e : r ≡ Right) where
+module _ (b : Buffers) (r : Result (Unit {0}) CallRefusal) (judged : Judges b r) {x : Unit {0}} (e : r ≡ Ok x) where
   right_both : Sizes b × (in_range b ≡ true)
-  right_both = let both = means b Right (sym judged ∙ e) in (same_sizes _ _ _ both.0, both.1)
+  unfolding ready_check
+  right_both =
+      let ready = passes judged e in
+      (same_sizes _ _ _ (unless_true _ 40 0 (first_left _ _ ready)), unless_true _ 44 0 (first_right _ _ ready))
 
   pub right_range : in_range b ≡ true
   right_range = right_both.1

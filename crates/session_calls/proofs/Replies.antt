@@ -3,7 +3,9 @@ use Prim.Native.Nat.{ℕ}
 use mathlib.Core.Path.{◌≡◌, refl, sym, ◌∙◌, ap}
 use mathlib.Core.Bool.{true, false}
 use mathlib.Core.List.{List}
+use Rattle.std.specs.Prelude.{Result, Ok, Err}
 use Rattle.model.specs.Refusal.{Check, pass, fail, first, unless}
+use Rattle.model.proofs.Refusals.{first_first, first_stays}
 use Rattle.model.specs.Machine.{Memory}
 use Rattle.model.specs.Session.{lockstep, Head, Call, set, watch, read, same_lengths, refused, Outcome, call_check, perform, meet}
 use Rattle.buffers_memory.specs.Memory.{memory_of, within, with_memory}
@@ -11,19 +13,18 @@ use Rattle.buffers_memory.proofs.Written.{written_self}
 use Rattle.buffers_tables.specs.Panel.{processors_in, slots_in, processor_in, slot_in}
 use Rattle.buffers_tables.specs.Tables.{network_in, module_in}
 use Rattle.buffers_range.specs.Ranges.{ranged}
-use Rattle.session_answers.specs.declared.CallAnswer.{CallAnswer}
-use Rattle.session_answers.specs.Answers.{call_answer, answer_bits}
+use Rattle.file_lines.proofs.Stages.{refuses, fails}
+use Rattle.session_answers.specs.declared.CallRefusal.{CallRefusal}
+use Rattle.session_answers.specs.Answers.{check_answer, call_answer, answer_bits}
 use Rattle.session_state.specs.declared.Told.{Told}
 use Rattle.session_state.specs.Header.{head_in, with_head}
 use Rattle.session_state.specs.Carried.{head_of}
 use Rattle.buffers_lengths.specs.Lengths.{fixed}
 use Rattle.session_state.specs.Commands.{commanded, Tells}
 use Rattle.session_state.proofs.Heads.{head_written}
-use Rattle.session_calls.specs.declared.Ready.{Ready}
-use Rattle.session_calls.specs.declared.Ready.TheVariants.{Right, Refused}
-use Rattle.session_calls.specs.Reply.{Buffers, buffers_of, lengths_of, Reply, leaving, replied, reply}
-use Rattle.session_calls.specs.Ready.{ready_of, Writes}
-use Rattle.session_calls.proofs.Judged.{Sizes, same_lengths_lem, Refuses, by_40, by_44, found, right_sizes, right_range}
+use Rattle.session_calls.specs.Reply.{Buffers, buffers_of, lengths_of, Reply, leaving, ready_check, replied, reply}
+use Rattle.session_calls.specs.Writes.{Writes}
+use Rattle.session_calls.proofs.Judged.{Sizes, same_lengths_lem, Judges, right_sizes, right_range}
 
 -- a command on the head that the panel holds, answered and encoded into the panel as it left it
 pub writes : (panel program memory : List ℕ) (call : Call) (h : Head) → h ≡ head_in panel → with_head (head_in panel) panel ≡ panel → (told : Told)
@@ -138,18 +139,24 @@ abbrev pub Replies : Buffers → Call → ℕ → Buffers → Type 0
 Replies b c bits left = (bits ≡ answer_bits (reply b c).answer) × ((reply b c).buffers ≡ left)
 
 -- the code judged the buffers, and goes by what it found
-module _ (b : Buffers) (c : Call) (r : Ready) (judged : r ≡ ready_of b) where
-  pub replies_refused : (a : CallAnswer) → r ≡ Refused a → (bits : ℕ) → bits ≡ answer_bits (call_answer a) → Replies b c bits b
-  replies_refused a e bits is = (is ∙ ap (λ (x : Reply). answer_bits x.answer) (sym refusal), ap (λ (x : Reply). x.buffers) refusal)
+module _ (b : Buffers) (c : Call) (r : Result (Unit {0}) CallRefusal) (judged : Judges b r) where
+  -- a refusal for the buffers is the reply to any call
+  reply_refused : {number returned : ℕ} → ready_check b ≡ fail number returned → reply b c ≡ record { answer = refused number returned; buffers = b }
+  unfolding reply replied ready_check
+  reply_refused e = ap (replied b c) (sym (first_first _ _ (check_in b c)) ∙ first_stays _ (check_in b c) e)
+
+  pub replies_refused : (a : CallRefusal) → r ≡ Err a → (bits : ℕ) → bits ≡ answer_bits (call_answer (Err a)) → Replies b c bits b
+  replies_refused a e bits is = go (ready_check b) refl
     where
-      go : Refuses b a → reply b c ≡ record { answer = call_answer a; buffers = b }
-      go (by_40 l q) = reply_40 b c l ∙ ap (λ (x : CallAnswer). record { answer = call_answer x; buffers = b }) q
-      go (by_44 l out q) = reply_44 b c l out ∙ ap (λ (x : CallAnswer). record { answer = call_answer x; buffers = b }) q
+      go : (k : Check) → ready_check b ≡ k → Replies b c bits b
+      go pass q = absurd (refuses judged e q)
+      go (fail number returned) q =
+          let told : call_answer (Err a) ≡ refused number returned = ap check_answer (fails judged e ∙ q) in (
+            is ∙ ap answer_bits told ∙ ap (λ (x : Reply). answer_bits x.answer) (sym (reply_refused q)),
+            ap (λ (x : Reply). x.buffers) (reply_refused q),
+          )
 
-      refusal : reply b c ≡ record { answer = call_answer a; buffers = b }
-      refusal = go (found b r a judged e)
-
-  module _ (e : r ≡ Right) where
+  module _ {x : Unit {0}} (e : r ≡ Ok x) where
     sizes : Sizes b
     sizes = right_sizes b r judged e
 

@@ -1,2 +1,2 @@
 pub mod Reply
-pub mod Ready
+pub mod Writes

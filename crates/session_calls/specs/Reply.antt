@@ -27,6 +27,10 @@ lengths_of b = lengths_lent b.panel b.program b.memory
 abbrev pub Reply : Type 0
 Reply = ReplyOn Buffers
 
+-- what every call asks of the buffers first: 40, then 44
+unfoldable pub ready_check : Buffers → Check
+ready_check b = first (unless (same_lengths (lengths_of b) fixed) 40 0) (unless (ranged b.panel b.program b.memory) 44 0)
+
 -- "Session calls: 40, 44, 41, 42, 43.", on the network and the head that the buffers hold
 abbrev pub reply_check : Buffers → Call → Check
 reply_check b c =

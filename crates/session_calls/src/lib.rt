@@ -8,35 +8,30 @@ ghost use Rattle.buffers_memory.specs.Memory.{with_memory, MemoryBytes};
 ghost use Rattle.buffers_tables.specs.Panel.{panel_length, signals_in, processor_in, processors_in, slots_in};
 ghost use Rattle.buffers_tables.specs.Tables.{Tables};
 ghost use Rattle.machine_run.specs.Running.{Watching};
+ghost use Rattle.file_lines.specs.Answer.{Answers};
+ghost use Rattle.session_answers.specs.Refusals.{call_refusal};
 ghost use Rattle.session_answers.specs.Answers.{call_answer, answer_bits};
 ghost use Rattle.session_state.specs.Header.{head_in, with_head};
 ghost use Rattle.session_state.specs.Carried.{head_of};
 ghost use Rattle.session_state.specs.Commands.{commanded};
-ghost use Rattle.session_calls.specs.Reply.{buffers_of, reply};
-ghost use Rattle.session_calls.specs.Ready.{ready_of, Writes};
+ghost use Rattle.session_calls.specs.Reply.{buffers_of, ready_check, reply};
+ghost use Rattle.session_calls.specs.Writes.{Writes};
 
 use gates::TruthTables;
-use session_answers::CallAnswer;
+use session_answers::CallRefusal;
 use session_state::Told;
 
-// Whether a call may go on with the buffers that it was lent, or what it answers at once.
-#[derive(Clone, Copy)]
-enum Ready {
-    Right,
-    Refused(CallAnswer),
-}
-
 // 40 where a length differs from the fixed one, then 44.
-fn readiness(panel: &[u8], program: &[u8], memory: &[u8]) -> Ready
-    ensures { result ≡ ready_of (buffers_of panel.now program.now memory.now) }
+fn readiness(panel: &[u8], program: &[u8], memory: &[u8]) -> Result<(), CallRefusal>
+    ensures { Answers call_refusal (tt {0}) (ready_check (buffers_of panel.now program.now memory.now)) result }
 {
     if !buffers_lengths::lengths_right(panel, program, memory) {
-        return Ready::Refused(CallAnswer::WrongLength);
+        return Err(CallRefusal::WrongLength);
     }
     if !buffers_range::in_range(panel, program, memory) {
-        return Ready::Refused(CallAnswer::OutOfRange);
+        return Err(CallRefusal::OutOfRange);
     }
-    Ready::Right
+    Ok(())
 }
 
 // The session that a command hands back, written into the panel, and its answer for C.
@@ -45,10 +40,8 @@ fn tell(told: Told, panel: &mut [u8]) -> u64
     ensures value { result ≡ answer_bits (call_answer told.answer) }
     ensures panel_after { panel.new ≡ with_head (head_of told.session panel.old) panel.old }
 {
-    let session = told.session;
-    let answer = told.answer;
-    session.encode(panel);
-    answer.bits()
+    told.session.encode(panel);
+    session_answers::answer_bits(told.answer)
 }
 
 // A setting, on buffers in range.
@@ -81,8 +74,7 @@ fn read_in(panel: &[u8], memory: &[u8], signal: u32) -> u64
     ensures { (program : List ℕ) → Writes (commanded panel.now program memory.now (head_in panel.now) (reading signal)) panel.now result panel.now }
 {
     let told = session_state::decode(panel).read(panel, memory, signal);
-    let answer = told.answer;
-    answer.bits()
+    session_answers::answer_bits(told.answer)
 }
 
 // A run, on buffers in range. The tables of the gates are made once for all its cycles.
@@ -106,8 +98,8 @@ pub fn set(panel: &mut [u8], program: &[u8], memory: &[u8], signal: u32, value: 
     ensures left { (reply (buffers_of panel.old program.now memory.now) (setting signal value)).buffers ≡ buffers_of panel.new program.now memory.now }
 {
     match readiness(panel, program, memory) {
-        Ready::Refused(answer) => answer.bits(),
-        Ready::Right => set_in(panel, signal, value),
+        Err(refusal) => session_answers::answer_bits(Err(refusal)),
+        Ok(()) => set_in(panel, signal, value),
     }
 }
 
@@ -117,8 +109,8 @@ pub fn watch(panel: &mut [u8], program: &[u8], memory: &[u8], signal: u32, mask:
     ensures left { (reply (buffers_of panel.old program.now memory.now) (watching signal mask)).buffers ≡ buffers_of panel.new program.now memory.now }
 {
     match readiness(panel, program, memory) {
-        Ready::Refused(answer) => answer.bits(),
-        Ready::Right => watch_in(panel, signal, mask),
+        Err(refusal) => session_answers::answer_bits(Err(refusal)),
+        Ok(()) => watch_in(panel, signal, mask),
     }
 }
 
@@ -128,8 +120,8 @@ pub fn read(panel: &[u8], program: &[u8], memory: &[u8], signal: u32) -> u64
     ensures left { (reply (buffers_of panel.now program.now memory.now) (reading signal)).buffers ≡ buffers_of panel.now program.now memory.now }
 {
     match readiness(panel, program, memory) {
-        Ready::Refused(answer) => answer.bits(),
-        Ready::Right => read_in(panel, memory, signal),
+        Err(refusal) => session_answers::answer_bits(Err(refusal)),
+        Ok(()) => read_in(panel, memory, signal),
     }
 }
 
@@ -139,7 +131,7 @@ pub fn run(panel: &mut [u8], program: &[u8], memory: &mut [u8], cycles: u32) -> 
     ensures left { (reply (buffers_of panel.old program.now memory.old) (running cycles)).buffers ≡ buffers_of panel.new program.now memory.new }
 {
     match readiness(panel, program, memory) {
-        Ready::Refused(answer) => answer.bits(),
-        Ready::Right => run_in(panel, program, memory, cycles),
+        Err(refusal) => session_answers::answer_bits(Err(refusal)),
+        Ok(()) => run_in(panel, program, memory, cycles),
     }
 }

@@ -2,7 +2,7 @@
 
 #![tactic(auto)]
 
-ghost use Rattle.std.specs.Prelude.{◌≡◌, List, ℕ, ◌≤◌, ◌<◌, length};
+ghost use Rattle.std.specs.Prelude.{◌≡◌, List, ℕ, ◌≤◌, ◌<◌, length, Err};
 ghost use Rattle.model.specs.Session.{set as setting, watch as watching, read as reading, run as running};
 ghost use Rattle.buffers_memory.specs.Memory.{with_memory, MemoryBytes};
 ghost use Rattle.buffers_tables.specs.Panel.{panel_length, signals_in, processor_in, processors_in, slots_in};
@@ -16,7 +16,7 @@ use clock::Cycle;
 use gates::TruthTables;
 use machine_run::Watch;
 use machine_slot::Machine;
-use session_answers::CallAnswer;
+use session_answers::{CallAnswer, CallRefusal, Reply};
 
 // The session's header: the cycles finished and the watch. Its values in hand stand in the panel alone, where the machine reads them.
 #[derive(Clone, Copy)]
@@ -47,25 +47,21 @@ pub fn decode(panel: &[u8]) -> Session
 }
 
 // A signal of the network: 1 to N.
+#[tactic(auto, using(logic::proofs::Judged::connected), unfolding(crate::specs::Commands::signal_in))]
 fn is_signal(panel: &[u8], signal: u32) -> bool
     requires { length panel.now ≡ panel_length }
     ensures { result ≡ signal_in panel.now signal }
 {
-    if signal == 0 {
-        return false;
-    }
-    signal <= buffers_tables::signals(panel) as u32
+    signal != 0 && signal <= u32::from(buffers_tables::signals(panel))
 }
 
 // An input of the network: "setting a gate" is refused.
+#[tactic(auto, using(logic::proofs::Judged::connected), unfolding(crate::specs::Commands::input_in))]
 fn is_input(panel: &[u8], signal: u32) -> bool
     requires { (length panel.now ≡ panel_length) × (signals_in panel.now ≤ 4096) }
     ensures { result ≡ input_in panel.now signal }
 {
-    if !is_signal(panel, signal) {
-        return false;
-    }
-    buffers_tables::kind(panel, signal as usize) == 1
+    is_signal(panel, signal) && buffers_tables::kind(panel, signal as usize) == 1
 }
 
 impl Session {
@@ -78,6 +74,16 @@ impl Session {
         buffers_tables::set_watch(panel, self.watch.signal, self.watch.mask);
     }
 
+    // A command that is refused hands the session back as it was.
+    fn refused(self, refusal: CallRefusal) -> Told
+        ensures { result ≡ record { session = self; answer = Err refusal } }
+    {
+        Told {
+            session: self,
+            answer: Err(refusal),
+        }
+    }
+
     // "Set an input for the next cycle": its value in hand is replaced in the panel, and no other byte. Refused, none is.
     pub fn set(self, panel: &mut [u8], input: u32, value: u32) -> Told
         requires { (length panel.old ≡ panel_length) × (signals_in panel.old ≤ 4096) }
@@ -85,21 +91,15 @@ impl Session {
     {
         let known = is_input(panel, input);
         if !known {
-            return Told {
-                session: self,
-                answer: CallAnswer::NoSuchSignal(input),
-            };
+            return self.refused(CallRefusal::NoSuchSignal(input));
         }
-        if value > 3 {
-            return Told {
-                session: self,
-                answer: CallAnswer::NoSuchValue(value),
-            };
+        if 3 < value {
+            return self.refused(CallRefusal::NoSuchValue(value));
         }
         buffers_tables::set_hand(panel, input as usize, value as u8);
         Told {
             session: self,
-            answer: CallAnswer::Done,
+            answer: Ok(Reply::Done),
         }
     }
 
@@ -109,16 +109,10 @@ impl Session {
         ensures { (program memory : List ℕ) → Tells (commanded panel.now program memory (head_of self panel.now) (watching signal mask)) result panel.now panel.now }
     {
         if !is_signal(panel, signal) {
-            return Told {
-                session: self,
-                answer: CallAnswer::NoSuchSignal(signal),
-            };
+            return self.refused(CallRefusal::NoSuchSignal(signal));
         }
-        if mask > 15 {
-            return Told {
-                session: self,
-                answer: CallAnswer::NoSuchValue(mask),
-            };
+        if 15 < mask {
+            return self.refused(CallRefusal::NoSuchValue(mask));
         }
         let finished = self.finished;
         let watched = signal as u16;
@@ -130,7 +124,7 @@ impl Session {
                     mask: mask as u8,
                 },
             },
-            answer: CallAnswer::Done,
+            answer: Ok(Reply::Done),
         }
     }
 
@@ -142,15 +136,12 @@ impl Session {
         ensures { (program : List ℕ) → Tells (commanded panel.now program memory.now (head_of self panel.now) (reading signal)) result panel.now panel.now }
     {
         if !is_signal(panel, signal) {
-            return Told {
-                session: self,
-                answer: CallAnswer::NoSuchSignal(signal),
-            };
+            return self.refused(CallRefusal::NoSuchSignal(signal));
         }
         let value = machine_run::value_of(panel, memory, signal as u16);
         Told {
             session: self,
-            answer: CallAnswer::Value(value),
+            answer: Ok(Reply::Value(value)),
         }
     }
 
@@ -172,11 +163,8 @@ impl Session {
         let finished = self.finished;
         let count = finished.0;
         let watch = self.watch;
-        if 65535 - (count as u32) < cycles {
-            return Told {
-                session: self,
-                answer: CallAnswer::TooManyCycles(finished),
-            };
+        if 65535 - u32::from(count) < cycles {
+            return self.refused(CallRefusal::TooManyCycles(finished));
         }
         let machine = Machine::new(tables, panel, program);
         let ran = machine_run::run(&machine, memory, watch, Cycle(cycles as u16));
@@ -187,7 +175,7 @@ impl Session {
                 finished: Cycle(count + done),
                 watch,
             },
-            answer: CallAnswer::Ran(Cycle(done), stopped),
+            answer: Ok(Reply::Ran(Cycle(done), stopped)),
         }
     }
 }

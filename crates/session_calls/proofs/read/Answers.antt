@@ -4,20 +4,20 @@ use Rattle.session_calls.proofs.Replies.{replies_refused, replies, read_state}
 use Rattle.session_calls.proofs.read.Goals as goal
 
 pub read_in-requires-clause-panel_len : goal.read_in-requires-clause-panel_len
-read_in-requires-clause-panel_len c = right_panel _ _ c.readiness.ensures c.in-Right.is
+read_in-requires-clause-panel_len c = right_panel _ _ c.readiness.ensures c.in-Ok.is
 
 pub read_in-requires-clause-by_index : goal.read_in-requires-clause-by_index
-read_in-requires-clause-by_index c = right_processor _ _ c.readiness.ensures c.in-Right.is
+read_in-requires-clause-by_index c = right_processor _ _ c.readiness.ensures c.in-Ok.is
 
 pub read_in-requires-clause-memory_bytes : goal.read_in-requires-clause-memory_bytes
-read_in-requires-clause-memory_bytes c = right_memory _ _ c.readiness.ensures c.in-Right.is
+read_in-requires-clause-memory_bytes c = right_memory _ _ c.readiness.ensures c.in-Ok.is
 
-pub returns-in-Refused : goal.returns-in-Refused
-returns-in-Refused c =
-    let both = replies_refused _ _ _ c.readiness.ensures _ c.in-Refused.is _ c.bits.ensures in
+pub returns-in-Err : goal.returns-in-Err
+returns-in-Err c =
+    let both = replies_refused _ _ _ c.readiness.ensures _ c.in-Err.is _ c.answer_bits.ensures in
     record { answer = both.0; left = both.1 }
 
-pub returns-in-Right : goal.returns-in-Right
-returns-in-Right c =
-    let both = replies _ _ _ c.readiness.ensures c.in-Right.is _ _ (c.read_in.ensures _) (read_state _ _ _ _ _) in
+pub returns-in-Ok : goal.returns-in-Ok
+returns-in-Ok c =
+    let both = replies _ _ _ c.readiness.ensures c.in-Ok.is _ _ (c.read_in.ensures _) (read_state _ _ _ _ _) in
     record { answer = both.0; left = both.1 }

@@ -4,14 +4,14 @@ use Rattle.session_calls.proofs.Replies.{replies_refused, replies, set_state}
 use Rattle.session_calls.proofs.set.Goals as goal
 
 pub set_in-requires : goal.set_in-requires
-set_in-requires c = right_panel _ _ c.readiness.ensures c.in-Right.is
+set_in-requires c = right_panel _ _ c.readiness.ensures c.in-Ok.is
 
-pub returns-in-Refused : goal.returns-in-Refused
-returns-in-Refused c =
-    let both = replies_refused _ _ _ c.readiness.ensures _ c.in-Refused.is _ c.bits.ensures in
+pub returns-in-Err : goal.returns-in-Err
+returns-in-Err c =
+    let both = replies_refused _ _ _ c.readiness.ensures _ c.in-Err.is _ c.answer_bits.ensures in
     record { answer = both.0; left = both.1 }
 
-pub returns-in-Right : goal.returns-in-Right
-returns-in-Right c =
-    let both = replies _ _ _ c.readiness.ensures c.in-Right.is _ _ (c.set_in.ensures _ _) (set_state _ _ _ _ _ _) in
+pub returns-in-Ok : goal.returns-in-Ok
+returns-in-Ok c =
+    let both = replies _ _ _ c.readiness.ensures c.in-Ok.is _ _ (c.set_in.ensures _ _) (set_state _ _ _ _ _ _) in
     record { answer = both.0; left = both.1 }

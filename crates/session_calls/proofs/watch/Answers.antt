@@ -4,14 +4,14 @@ use Rattle.session_calls.proofs.Replies.{replies_refused, replies, watch_state}
 use Rattle.session_calls.proofs.watch.Goals as goal
 
 pub watch_in-requires : goal.watch_in-requires
-watch_in-requires c = right_panel _ _ c.readiness.ensures c.in-Right.is
+watch_in-requires c = right_panel _ _ c.readiness.ensures c.in-Ok.is
 
-pub returns-in-Refused : goal.returns-in-Refused
-returns-in-Refused c =
-    let both = replies_refused _ _ _ c.readiness.ensures _ c.in-Refused.is _ c.bits.ensures in
+pub returns-in-Err : goal.returns-in-Err
+returns-in-Err c =
+    let both = replies_refused _ _ _ c.readiness.ensures _ c.in-Err.is _ c.answer_bits.ensures in
     record { answer = both.0; left = both.1 }
 
-pub returns-in-Right : goal.returns-in-Right
-returns-in-Right c =
-    let both = replies _ _ _ c.readiness.ensures c.in-Right.is _ _ (c.watch_in.ensures _ _) (watch_state _ _ _ _ _ _) in
+pub returns-in-Ok : goal.returns-in-Ok
+returns-in-Ok c =
+    let both = replies _ _ _ c.readiness.ensures c.in-Ok.is _ _ (c.watch_in.ensures _ _) (watch_state _ _ _ _ _ _) in
     record { answer = both.0; left = both.1 }

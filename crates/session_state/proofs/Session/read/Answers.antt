@@ -13,9 +13,10 @@ use Rattle.session_state.proofs.Session.read.Goals as goal
 pub returns-then-not-is_signal : goal.returns-then-not-is_signal
 returns-then-not-is_signal c =
     λ program.
-    tells _ _ _ _ _
+    rw c.refused.ensures
+    (tells _ _ _ _ _
     (read_no_signal c.args.panel.now program c.args.memory.now (head_of c.args.self c.args.panel.now) c.args.signal (fails _ _ c.is_signal.ensures (ap not c.if-not-is_signal.true)))
-    refl refl refl (sym (hands_own _ c.requires.panel_len.0))
+    refl refl refl (sym (hands_own _ c.requires.panel_len.0)))
 
 pub overflow_cast-signal : goal.overflow_cast-signal
 overflow_cast-signal c =

@@ -14,12 +14,12 @@ use Rattle.buffers_tables.proofs.Hands.{hands_own}
 use native.Mathlib.Omega.{arith}
 use Rattle.session_state.proofs.Session.run.Goals as goal
 
-pub returns-then-count-cycles : goal.returns-then-count-cycles
-returns-then-count-cycles c =
+pub returns-then-from-cycles : goal.returns-then-from-cycles
+returns-then-from-cycles c =
     let h = head_of c.args.self c.args.panel.now in
-    let l : 65535 < h.finished + c.args.cycles = omega (arith, c.if-count-cycles.true) in
+    let l : 65535 < h.finished + c.args.cycles = omega (arith, c.if-from-cycles.true) in
     record {
-      tells = tells _ _ _ _ _ (run_refused c.args.panel.now c.args.program.now c.args.memory.now h c.args.cycles l) refl refl refl (sym (hands_own c.args.panel.now c.requires.tables.panel_size));
+      tells = rw c.refused.ensures (tells _ _ _ _ _ (run_refused c.args.panel.now c.args.program.now c.args.memory.now h c.args.cycles l) refl refl refl (sym (hands_own c.args.panel.now c.requires.tables.panel_size)));
       memory_after = memory_kept c.args.panel.now c.args.program.now c.args.memory.now h c.args.cycles c.requires.memory_bytes.size l;
     }
 
@@ -30,12 +30,12 @@ pub overflow_add-result : goal.overflow_add-result
 overflow_add-result c =
     let most = run_most c.args.panel.now c.args.program.now (watch_of c.args.self.watch) (memory_of c.args.memory.now) c.args.cycles in
     let counted = rw (c.new-machine.ensures.0, c.new-machine.ensures.1) at c.run-ran.ensures.0 in
-    omega (arith, counted, most, c.if-count-cycles.false)
+    omega (arith, counted, most, c.if-from-cycles.false)
 
 pub returns : goal.returns
 returns c =
     let h = head_of c.args.self c.args.panel.now in
-    let l : h.finished + c.args.cycles ≤ 65535 = omega (arith, c.if-count-cycles.false) in
+    let l : h.finished + c.args.cycles ≤ 65535 = omega (arith, c.if-from-cycles.false) in
     let done = rw (c.new-machine.ensures.0, c.new-machine.ensures.1) at c.run-ran.ensures in
     let e = run_done c.args.panel.now c.args.program.now c.args.memory.now h.finished h.watch c.args.cycles l in
     record {

@@ -11,12 +11,12 @@ use Rattle.session_state.proofs.Session.set.Goals as goal
 
 pub returns-then-not-known : goal.returns-then-not-known
 returns-then-not-known c =
-    λ program memory. set_41 c.args.panel.now program memory (head_of c.args.self c.args.panel.now) c.args.input c.args.value _ c.is_input-known.ensures (ap not c.if-not-known.true) _ refl refl refl (sym (hands_own _ c.requires.0))
+    λ program memory. rw c.refused.ensures (set_41 c.args.panel.now program memory (head_of c.args.self c.args.panel.now) c.args.input c.args.value _ c.is_input-known.ensures (ap not c.if-not-known.true) _ refl refl refl (sym (hands_own _ c.requires.0)))
 
 pub returns-then-value-gt3 : goal.returns-then-value-gt3
 returns-then-value-gt3 c =
     let there : c.is_input-known.result ≡ true = cc in
-    λ program memory. set_42 c.args.panel.now program memory (head_of c.args.self c.args.panel.now) c.args.input c.args.value _ c.is_input-known.ensures (ap not there) c.if-value-gt3.true _ refl refl refl (sym (hands_own _ c.requires.0))
+    λ program memory. rw c.refused-then-value-gt3.ensures (set_42 c.args.panel.now program memory (head_of c.args.self c.args.panel.now) c.args.input c.args.value _ c.is_input-known.ensures (ap not there) c.if-value-gt3.true _ refl refl refl (sym (hands_own _ c.requires.0)))
 
 pub set_hand-requires : goal.set_hand-requires
 set_hand-requires c =
