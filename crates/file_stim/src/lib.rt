@@ -9,7 +9,7 @@ ghost use Rattle.model.specs.Netlist.{network};
 ghost use Rattle.model.specs.Stimulus.{stim_line, stim_limit, stim_check};
 ghost use Rattle.model.specs.Checked.{Checked};
 ghost use Rattle.file_stim.specs.Answer.{StimAnswers};
-ghost use Rattle.file_stim.specs.Stepping.{step_at};
+ghost use Rattle.file_stim.specs.Stepping.{step_at, step_of};
 ghost use Rattle.file_stim.specs.Judging.{numbers_of, ends, rises, gives, may, judged_end, judged_given};
 
 use clock::Cycle;
@@ -209,5 +209,13 @@ impl Cursor {
             line: self.line + 1,
         };
         Some((here, after))
+    }
+
+    // The same, where the line is of a time; none at a line of another time, too.
+    pub fn next_of(self, stim: &[u8], time: Cycle) -> Option<(Line, Cursor)>
+        requires { is_line_at stim.now (stim_line self.line) 3 ≡ true }
+        ensures { result ≡ step_of stim.now time.0 self.line }
+    {
+        self.next(stim).filter(|(line, _)| line.time.0 == time.0)
     }
 }
