@@ -1,3 +1,4 @@
 pub mod Counts
 pub mod Testing
 pub mod Formed
+pub mod Mapped

@@ -1,30 +1,21 @@
--- The tests of every line (01, Refusals: "24, 25, 23, each over all lines first"): what a line has to be, how a line that is not is refused,
--- and the check of them all. They mirror private functions and need not be believed; `mod_check` is what a caller reads.
-use Rattle.std.specs.Prelude.{ℕ, Bool, List}
-use Rattle.logic.specs.Test.{all}
-use Rattle.model.specs.Refusal.{Check, first}
+-- The tests of every line (01, Refusals: "24, 25, 23, each over all lines first"): what a test computes, and the check of it over all lines.
+-- They mirror private functions and need not be believed; `mod_check` is what a caller reads.
+use Rattle.std.specs.Prelude.{ℕ, ◌+◌, ◌≡◌, Bool, List}
+use Rattle.model.specs.Refusal.{Check, first, unless}
 use Rattle.model.specs.Network.{Network}
-use Rattle.model.specs.Module.{Module, send_right, reception_right, operand_right}
-use Rattle.model.specs.ModuleFile.{module_of, placed, sending, receiving, operands}
-use Rattle.file_mod_lines.specs.declared.ModAnswer.{ModAnswer}
-use Rattle.file_mod_lines.specs.declared.ModAnswer.TheVariants.{Send, Reception, WrongOperand}
-use Rattle.file_mod.specs.declared.Test.{Test}
-use Rattle.file_mod.specs.declared.Test.TheVariants.{Sends, Receptions, Operands}
+use Rattle.model.specs.ModuleFile.{mod_index, module_of, each_line, placed, sending, receiving, operands}
+use Rattle.file_mod_lines.specs.declared.Place.{Place}
+use Rattle.file_mod_lines.specs.declared.Shape.{Shape}
+use Rattle.file_mod_table.specs.Line.{Within}
 
-abbrev pub test_right : Test → Network → Module → ℕ → ℕ → Bool
-test_right Sends n m p i = send_right m p i
-test_right Receptions n m p i = reception_right m p i
-test_right Operands n m p i = all 4 (operand_right n m p i)
+-- what is answered of a place of the module is the test of its processor and its slot
+abbrev pub Computes : (Place → Bool → Type 0) → Shape → (ℕ → ℕ → Bool) → Type 0
+Computes answers shape test =
+    (place : Place) (b : Bool) → Within shape place.processor place.slot.0 → answers place b → b ≡ test place.processor place.slot.0
 
-abbrev pub test_answer : Test → ℕ → ModAnswer
-test_answer Sends line = Send line
-test_answer Receptions line = Reception line
-test_answer Operands line = WrongOperand line
-
-abbrev pub test_check : Test → Network → List ℕ → Check
-test_check Sends n modfile = sending modfile
-test_check Receptions n modfile = receiving modfile
-test_check Operands n modfile = operands n modfile
+-- every line passes the test, or the first that does not is refused
+abbrev pub each_right : ℕ → (ℕ → ℕ → Bool) → List ℕ → Check
+each_right number test modfile = each_line modfile (λ p i. unless (test p i) number (mod_index modfile p i + 1))
 
 -- what `mod_check` wants of right lines
 abbrev pub module_check : Network → List ℕ → Check

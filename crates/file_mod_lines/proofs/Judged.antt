@@ -1,21 +1,12 @@
 -- What the code's judgement of a line's layout answers, case by case.
 use Prim.Native.Nat.{ℕ, ◌<◌, ◌≤◌}
 use mathlib.Core.Path.{◌≡◌, refl}
-use mathlib.Core.Bool.{Bool, true, false, not}
+use mathlib.Core.Bool.{false, not}
 use lib.Dec.{eqb, leb, ltb}
 use borrow.Author.Tests.{eq-eqb, ne_eqb, lt-ltb, le-ltb}
 use Rattle.logic.specs.Test.{◌and◌, ◌or◌}
 use Rattle.logic.proofs.Judged.{and_false, and_yes, or_no, or_yes}
 use Rattle.file_mod_lines.specs.Layout.{pair_laid}
-
--- a chain of tests by its first one
-pub true_and : (rest : Bool) → true and rest ≡ rest
-unfolding ◌and◌
-true_and rest = refl
-
-pub false_and : (rest : Bool) → false and rest ≡ false
-unfolding ◌and◌
-false_and rest = refl
 
 module _ (slots most part k : ℕ) where
   pub pair_far : slots ≤ k → pair_laid slots most part k ≡ false

@@ -129,6 +129,7 @@ impl<'a> Line<'a> {
     }
 
     // The layout is that of a place, N, P and C being given.
+    #[tactic(auto, using(logic::proofs::Judged::connected), unfolding(crate::specs::Layout::line_at))]
     fn is_laid(&self, place: Place, signals: u16, shape: Shape) -> bool
         ensures { result ≡ line_at self.now.modfile.now self.now.at place.processor place.slot.0 signals shape.processors shape.slots }
     {

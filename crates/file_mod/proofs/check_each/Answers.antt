@@ -1,32 +1,24 @@
--- The invariant: the lines before line k pass the test.
-use Prim.Native.Nat.{◌+◌, ◌≤◌}
-use mathlib.Core.Path.{refl, sym, ◌∙◌}
+-- The invariant: the lines before line k pass the test, which the closure computes at the line's place (`line_answered`).
+use mathlib.Core.Path.{refl}
 use native.Mathlib.Omega.{arith}
 use Rattle.model.specs.Refusal.{first_below}
-use Rattle.model.specs.Netlist.{network}
-use Rattle.file_mod_sources.proofs.Judged.{judged_right, judged_wrong}
-use Rattle.file_mod.proofs.Testing.{each_stops, each_goes_on, each_ends}
+use Rattle.file_mod.proofs.Testing.{line_answered, each_stops, each_goes_on, each_ends}
 use Rattle.file_mod.proofs.check_each.Goals as goal
 
 pub loop-k-init : goal.loop-k-init
 unfolding first_below
-loop-k-init c = (omega arith, refl)
+loop-k-init g c number test computes = refl
 
-pub returns-in_default : goal.returns-in_default
-returns-in_default c =
-    let here = rw (c.place_of-place.ensures.0, c.place_of-place.ensures.1) at c.judge_line.ensures in
-    let tested = each_stops c.args.test (network c.args.net.now) c.args.modfile.now _ _ c.requires.laid.sized _ c.loop-k.k in
-    rw c.refused_at.ensures
-    (tested c.line_count-lines.ensures.0 c.loop-k.invariant.1 c.loop-k-test.true _ refl (judged_wrong _ (sym here ∙ c.in_default.is)))
+pub returns-then-not-right : goal.returns-then-not-right
+returns-then-not-right g c number test computes =
+    let answered = line_answered c.args.table.now.laid c.loop-k.k (omega arith) c.place_of.result c.place_of.ensures.0 c.place_of.ensures.1 test computes c.right.ensures in
+    each_stops number test _ c.args.table.now.laid.sized _ c.loop-k.k c.lines-k-end.ensures.0 (c.loop-k.invariant number test computes) c.loop-k-test.true answered c.if-not-right.true
 
 pub loop-k-preserved : goal.loop-k-preserved
-loop-k-preserved c =
-    let here = rw (c.place_of-place.ensures.0, c.place_of-place.ensures.1) at c.judge_line.ensures in
-    let low : c.loop-k.k + 1 ≤ c.line_count-lines.result = omega arith in
-    let tested = each_goes_on c.args.test (network c.args.net.now) c.args.modfile.now _ _ c.requires.laid.sized _ c.loop-k.k in
-    (low, tested c.line_count-lines.ensures.0 c.loop-k.invariant.1 _ refl (judged_right _ (sym here ∙ c.in-Right.is)))
+loop-k-preserved g c number test computes =
+    let answered = line_answered c.args.table.now.laid c.loop-k.k (omega arith) c.place_of.result c.place_of.ensures.0 c.place_of.ensures.1 test computes c.right.ensures in
+    each_goes_on number test _ c.args.table.now.laid.sized _ c.loop-k.k c.lines-k-end.ensures.0 (c.loop-k.invariant number test computes) answered c.if-not-right.false
 
 pub returns : goal.returns
-returns c =
-    let tested = each_ends c.args.test (network c.args.net.now) c.args.modfile.now _ _ c.requires.laid.sized _ c.loop-k.k in
-    tested c.line_count-lines.ensures.0 c.loop-k.invariant.1 c.loop-k.invariant.0 c.loop-k-test.false
+returns g c number test computes =
+    each_ends number test _ c.args.table.now.laid.sized _ c.loop-k.k c.lines-k-end.ensures.0 (c.loop-k.invariant number test computes) (omega arith) (omega arith)

@@ -1,39 +1,66 @@
 -- The first of the checks that refuses answers for all.
-use mathlib.Core.Path.{refl}
+use mathlib.Core.Path.{◌≡◌, refl}
+use borrow.Author.Rules.{rules}
+use Rattle.std.proofs.lemmas.Result.{err_from_is_err_and}
+use Rattle.logic.specs.Test.{all}
 use Rattle.model.specs.Netlist.{network}
-use Rattle.model.specs.ModuleFile.{module_of, placed}
-use Rattle.file_lines.proofs.Stages.{passes, after, stops}
-use Rattle.file_mod_lines.specs.Answer.{ModAnswers}
+use Rattle.model.specs.Module.{send_right, reception_right, operand_right}
+use Rattle.model.specs.ModuleFile.{module_of, placed, sending, receiving, operands}
+use Rattle.file_lines.specs.Answer.{Answers}
+use Rattle.file_lines.proofs.Stages.{renamed, passes, after, stops}
+use Rattle.file_mod_lines.specs.Answer.{mod_refusal}
+use Rattle.file_mod_lines.specs.declared.ModRefusal.TheVariants.{Send, Reception, WrongOperand}
 use Rattle.file_mod.proofs.Formed.{signals_few, net_signals}
+use Rattle.file_mod.proofs.Mapped.{mapped}
+use Rattle.file_mod.proofs.Testing.{operands_each}
 use Rattle.file_mod.proofs.check_module.Goals as goal
-use Rattle.file_mod.proofs.check_module.Goals.{After-check_placements-placements}
+use Rattle.file_mod.proofs.check_module.Goals.{After-check_placements, After-map_err, After-map_err-2, After-map_err-3}
 
--- 22 answers for the network of NET
-placed_answers : (c : After-check_placements-placements) → ModAnswers c.args.modfile.now (placed (network c.args.net.now) (module_of c.args.modfile.now)) c.check_placements-placements.result
-placed_answers c =
-    c.check_placements-placements.ensures (network c.args.net.now) (net_signals c.args.net.now _ c.requires.signals_value)
+-- 22, 24, 25 and 23 of the module
+placements : (c : After-check_placements) → Answers mod_refusal (tt {0}) (placed (network c.args.net.now) (module_of c.args.table.now.modfile.now)) c.check_placements.result
+placements c = c.check_placements.ensures (network c.args.net.now) (net_signals c.args.net.now _ c.requires.signals_value)
 
-pub check_placements-placements-requires-clause-signals_bound : goal.check_placements-placements-requires-clause-signals_bound
-check_placements-placements-requires-clause-signals_bound c = signals_few _ _ c.requires.formed.checked c.requires.signals_value
+sends : (c : After-map_err) → Answers mod_refusal (tt {0}) (sending c.args.table.now.modfile.now) c.map_err.result
+unfolding sending
+sends c =
+    mapped _ (λ line refusal p. let e : refusal ≡ Send line = search rules in rw e refl)
+    (c.check_each.ensures 24 (send_right (module_of c.args.table.now.modfile.now)) (λ place b within q. search rules)) c.map_err.ensures.cases
 
-pub returns-in_default : goal.returns-in_default
-returns-in_default c =
-    stops (placed_answers (goal.at.returns-in_default c).After-check_placements-placements) (c.in_default.not-Accepted _ _) _
+receptions : (c : After-map_err-2) → Answers mod_refusal (tt {0}) (receiving c.args.table.now.modfile.now) c.map_err-2.result
+unfolding receiving
+receptions c =
+    mapped _ (λ line refusal p. let e : refusal ≡ Reception line = search rules in rw e refl)
+    (c.check_each-2.ensures 25 (reception_right (module_of c.args.table.now.modfile.now)) (λ place b within q. search rules)) c.map_err-2.ensures.cases
 
-pub returns-in_default-sends : goal.returns-in_default-sends
-returns-in_default-sends c =
-    let right_placements = passes (placed_answers (goal.at.returns-in_default-sends c).After-check_placements-placements) c.in-Accepted.is refl in
-    after right_placements (stops c.check_each-sends.ensures (c.in_default-sends.not-Accepted _ _) _)
+read : (c : After-map_err-3) → Answers mod_refusal (tt {0}) (operands (network c.args.net.now) c.args.table.now.modfile.now) c.map_err-3.result
+read c =
+    mapped _ (λ line refusal p. let e : refusal ≡ WrongOperand line = search rules in rw e refl)
+    (renamed refl (operands_each (network c.args.net.now) c.args.table.now.modfile.now)
+    (c.check_each-3.ensures 23 (λ p i. all 4 (operand_right (network c.args.net.now) (module_of c.args.table.now.modfile.now) p i)) (λ place b within q. search rules))) c.map_err-3.ensures.cases
 
-pub returns-in_default-receptions : goal.returns-in_default-receptions
-returns-in_default-receptions c =
-    let right_placements = passes (placed_answers (goal.at.returns-in_default-receptions c).After-check_placements-placements) c.in-Accepted.is refl in
-    let right_sends = passes c.check_each-sends.ensures c.in-Accepted-sends.is refl in
-    after right_placements (after right_sends (stops c.check_each-receptions.ensures (c.in_default-receptions.not-Accepted _ _) _))
+pub check_placements-requires : goal.check_placements-requires
+check_placements-requires c = signals_few _ _ c.requires.formed.checked c.requires.signals_value
+
+pub returns-in_err-check_placements : goal.returns-in_err-check_placements
+returns-in_err-check_placements c =
+    let p = err_from_is_err_and c.from_residual.result c.from_residual.ensures.1 in
+    rw (p.1, p.2) (stops (placements (goal.at.returns-in_err-check_placements c).After-check_placements) c.in_err-check_placements.was _)
+
+pub returns-in_err-map_err : goal.returns-in_err-map_err
+returns-in_err-map_err c =
+    let p = err_from_is_err_and c.from_residual-in_err-map_err.result c.from_residual-in_err-map_err.ensures.1 in
+    after (passes (placements (goal.at.returns-in_err-map_err c).After-check_placements) c.in_ok-check_placements.was)
+    (rw (p.1, p.2) (stops (sends (goal.at.returns-in_err-map_err c).After-map_err) c.in_err-map_err.was _))
+
+pub returns-in_err-map_err-2 : goal.returns-in_err-map_err-2
+returns-in_err-map_err-2 c =
+    let p = err_from_is_err_and c.from_residual-in_err-map_err-2.result c.from_residual-in_err-map_err-2.ensures.1 in
+    after (passes (placements (goal.at.returns-in_err-map_err-2 c).After-check_placements) c.in_ok-check_placements.was)
+    (after (passes (sends (goal.at.returns-in_err-map_err-2 c).After-map_err) c.in_ok-map_err.was)
+    (rw (p.1, p.2) (stops (receptions (goal.at.returns-in_err-map_err-2 c).After-map_err-2) c.in_err-map_err-2.was _)))
 
 pub returns : goal.returns
 returns c =
-    let right_placements = passes (placed_answers (goal.at.returns c).After-check_placements-placements) c.in-Accepted.is refl in
-    let right_sends = passes c.check_each-sends.ensures c.in-Accepted-sends.is refl in
-    let right_receptions = passes c.check_each-receptions.ensures c.in-Accepted-receptions.is refl in
-    after right_placements (after right_sends (after right_receptions c.check_each.ensures))
+    after (passes (placements (goal.at.returns c).After-check_placements) c.in_ok-check_placements.was)
+    (after (passes (sends (goal.at.returns c).After-map_err) c.in_ok-map_err.was)
+    (after (passes (receptions (goal.at.returns c).After-map_err-2) c.in_ok-map_err-2.was) (read c)))
