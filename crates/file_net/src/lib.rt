@@ -108,11 +108,10 @@ fn check_chains(net: &[u8], size: u16) -> Result<u16, NetRefusal>
     requires { Lines net.now size }
     ensures { NetAnswers net.now (net_chains net.now) result }
 {
-    let signal = first_chain(net, size);
-    if signal != 0 {
-        return Err(NetRefusal::Chain(signal));
+    match first_chain(net, size) {
+        Some(signal) => Err(NetRefusal::Chain(signal)),
+        None => Ok(size),
     }
-    Ok(size)
 }
 
 // The check of NET, N being at most the limit.

@@ -5,7 +5,6 @@
 ghost use Rattle.std.specs.Prelude.{◌≤◌, length};
 ghost use Rattle.gates.specs.Value.{Code};
 
-use fields::Field;
 use gates::{Gate, TruthTables};
 
 // Values, functions and translations by name.
@@ -50,27 +49,13 @@ fn gate_trial(rt: &impl Print, f: u8, g5: u8, a: u8, b: u8, c: u8, d: u8)
         g5,
     };
     let value = gate.value(&tables, a, b, c, d);
-    print_line(
-        rt,
-        &[
-            f as u16,
-            g5 as u16,
-            a as u16,
-            b as u16,
-            c as u16,
-            d as u16,
-            value as u16,
-        ],
-    );
+    print_line(rt, &[f, g5, a, b, c, d, value].map(u16::from));
 }
 
 // Prints the trial's number, and 1 if the text is a right field, else 0.
 fn field_trial(rt: &impl Print, trial: u16, text: &[u8]) {
-    let right = match fields::read_field(text, 0) {
-        Field::Number(_, _) => 1,
-        Field::Misformed => 0,
-    };
-    print_line(rt, &[trial, right]);
+    let right = fields::read_field(text, 0).is_some();
+    print_line(rt, &[trial, u16::from(right)]);
 }
 
 fn gate_trials(rt: &impl Print) {
