@@ -8,7 +8,7 @@ use native.Mathlib.Decide.{ℕ_discrete}
 use native.Mathlib.Numerals.{add-one}
 use lib.ListN.{length, get_or, set, length-set}
 use lib.Seq.{get_or-set_same, get_or-set_other}
-use borrow.Author.Tests.{eq-eqb, ne_eqb, le-leb, lt-leb}
+use borrow.Author.Tests.{eq-eqb, ne_eqb, le-leb}
 use Rattle.logic.specs.Test.{◌and◌}
 use Rattle.logic.specs.Listed.{listed}
 use Rattle.logic.proofs.Listed.{listed_length, listed_at, is_listed}
@@ -21,24 +21,12 @@ use Rattle.model.specs.Checked.{Checked}
 use Rattle.model.proofs.Value.{start_given}
 use Rattle.model.proofs.Accepted.{stim_right}
 use Rattle.model.proofs.Checked.{checked_size}
+use Rattle.file_stim.specs.declared.Line.{Line}
 use Rattle.file_stim.specs.declared.Cursor.{Cursor}
 use Rattle.file_stim.proofs.Steps.{GivenAt}
 use Rattle.file_stim.proofs.Passed.{nothing_later}
 use Rattle.buffers_load_files.specs.Loaded.{time_zero_from}
 use Rattle.buffers_load_values.specs.Values.{undefined_to, given_below}
-
-module _ (signals s : ℕ) where
-  pub undefined_none : s ≡ 0 → undefined_to signals s ≡ 0
-  unfolding undefined_to ◌and◌
-  undefined_none e = rw (lt-leb 1 s (omega arith))
-
-  pub undefined_above : signals < s → undefined_to signals s ≡ 0
-  unfolding undefined_to ◌and◌
-  undefined_above h = rw (le-leb 1 s (omega arith), lt-leb s signals h)
-
-  pub undefined_signal : (s ≡ 0 → ⊥) → s ≤ signals → undefined_to signals s ≡ 2
-  unfolding undefined_to ◌and◌
-  undefined_signal d h = rw (le-leb 1 s (omega arith), le-leb s signals h)
 
 -- the array after the first lines
 pub record GivenTo (net stim : List ℕ) (line : ℕ) (values : List ℕ) : Type 0 where
@@ -77,9 +65,9 @@ module _ (net stim : List ℕ) where
       line_value_few = omega (arith, ((stim_right (network net) stim passes).given line h).value)
 
     -- a line of time 0
-    module _ {line time signal value : ℕ} {next : Cursor} {values : List ℕ} (so_far : GivenTo net stim line values)
-        (g : GivenAt stim line time signal value next) (at_0 : time ≡ 0) where
-      there : given_below net stim (line + 1) signal ≡ value
+    module _ {line : ℕ} {given : Line} {next : Cursor} {values : List ℕ} (so_far : GivenTo net stim line values)
+        (g : GivenAt stim 0 line given next) where
+      there : given_below net stim (line + 1) given.signal ≡ given.value
       unfolding given_below last_given ◌and◌
       there =
           rw (
@@ -87,34 +75,34 @@ module _ (net stim : List ℕ) where
             g.signal_is,
             line_signal line g.before_end,
             eq-eqb (stim_signal stim line) (stim_signal stim line) refl,
-            sym g.time_is ∙ at_0,
+            g.time_is,
             g.value_is,
           )
 
-      elsewhere : (s : ℕ) → (s ≡ signal → ⊥) → given_below net stim line s ≡ given_below net stim (line + 1) s
+      elsewhere : (s : ℕ) → (s ≡ given.signal → ⊥) → given_below net stim line s ≡ given_below net stim (line + 1) s
       unfolding given_below last_given ◌and◌
       elsewhere s d = rw (add-one line, ne_eqb (stim_signal stim line) s (λ (e : stim_signal stim line ≡ s). d (sym e ∙ sym g.signal_is)))
 
-      signal_there : signal < length values
+      signal_there : given.signal < length values
       signal_there = omega (arith, so_far.size, g.signal_is, line_signal_few line g.before_end)
 
-      pub given_more : GivenTo net stim next.line (set values signal value)
+      pub given_more : GivenTo net stim next.line (set values given.signal given.value)
       given_more =
           record {
-            size = length-set values signal value ∙ so_far.size;
+            size = length-set values given.signal given.value ∙ so_far.size;
             low = omega (arith, g.before_end, g.follows);
-            given = λ s b. rw g.follows (at s b (ℕ_discrete s signal));
+            given = λ s b. rw g.follows (at s b (ℕ_discrete s given.signal));
           }
         where
-          at : (s : ℕ) → s < 4097 → Dec (s ≡ signal) → get_or (set values signal value) s 0 ≡ given_below net stim (line + 1) s
-          at s b (yes e) = rw e (get_or-set_same values signal value 0 signal_there ∙ sym there)
-          at s b (no d) = get_or-set_other values signal s value 0 d ∙ so_far.given s b ∙ elsewhere s d
+          at : (s : ℕ) → s < 4097 → Dec (s ≡ given.signal) → get_or (set values given.signal given.value) s 0 ≡ given_below net stim (line + 1) s
+          at s b (yes e) = rw e (get_or-set_same values given.signal given.value 0 signal_there ∙ sym there)
+          at s b (no d) = get_or-set_other values given.signal s given.value 0 d ∙ so_far.given s b ∙ elsewhere s d
 
-    pub given_ends : {line : ℕ} {values : List ℕ} → GivenTo net stim line values → (line < stim_count stim → 0 < stim_time stim line)
+    pub given_ends : {line : ℕ} {values : List ℕ} → GivenTo net stim line values → (line < stim_count stim → stim_time stim line ≡ 0 → ⊥)
         → values ≡ listed 4097 (time_zero_from net stim)
     unfolding given_below time_zero_from held
     given_ends {line} {values} so_far later =
         is_listed values 4097 _ so_far.size (λ s b. so_far.given s b ∙ same s)
       where
         same : (s : ℕ) → given_below net stim line s ≡ time_zero_from net stim s
-        same s = rw (start_given (network net) (held stim 0) s, nothing_later (network net) stim passes 0 line later s (stim_count stim) so_far.low (omega arith))
+        same s = rw (start_given (network net) (held stim 0) s, nothing_later (network net) stim passes 0 line (λ h. omega (arith, later h)) s (stim_count stim) so_far.low (omega arith))

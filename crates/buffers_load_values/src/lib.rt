@@ -11,29 +11,24 @@ ghost use Rattle.buffers_load_files.specs.Loaded.{time_zero_from};
 ghost use Rattle.model.specs.Checked.{Checked};
 ghost use Rattle.buffers_load_values.specs.Values.{undefined_to};
 
-use file_stim::{Cursor, Step};
+use clock::Cycle;
+use file_stim::Cursor;
 
 // "or U": what signal s has before STIM gives it a value, and 0 where there is no signal.
+#[tactic(auto, using(logic::proofs::Judged::connected), unfolding(crate::specs::Values::undefined_to))]
 fn undefined_at(signals: usize, s: usize) -> u8
     ensures { result ≡ undefined_to signals s }
 {
-    if s == 0 {
-        return 0;
-    }
-    if signals < s {
-        return 0;
-    }
-    2
+    if 1 <= s && s <= signals { 2 } else { 0 }
 }
 
 // U for every signal.
+#[tactic(auto, using(logic::proofs::Filling::fill_ends))]
 fn mark_undefined(signals: usize, values: &mut [u8])
     ensures { values.new ≡ listed (length values.old) (undefined_to signals) }
 {
-    let mut s: usize = 0;
-    while s < values.len() {
+    for s in 0..values.len() {
         values[s] = undefined_at(signals, s);
-        s += 1;
     }
 }
 
@@ -46,14 +41,8 @@ pub fn load_values(net: &[u8], stim: &[u8], values: &mut [u8])
 {
     mark_undefined(buffers_load_files::signals_of(net), values);
     let mut cursor = Cursor { line: 0 };
-    loop {
-        let Step::Given(time, signal, value, next) = cursor.next(stim) else {
-            return;
-        };
-        if time.0 != 0 {
-            return;
-        }
-        values[signal as usize] = value as u8;
+    while let Some((line, next)) = cursor.next_of(stim, Cycle(0)) {
+        values[usize::from(line.signal)] = line.value as u8;
         cursor = next;
     }
 }

@@ -2,36 +2,34 @@
 use Prim.Native.Nat.{ℕ}
 use mathlib.Core.Path.{◌≡◌}
 use mathlib.Core.List.{List}
+use Rattle.std.specs.Prelude.{Result, Err}
 use Rattle.model.specs.Refusal.{Check, pass}
 use Rattle.model.specs.Files.{files_of}
 use Rattle.model.specs.Netlist.{network, net_check}
 use Rattle.model.specs.ModuleFile.{mod_check}
-use Rattle.model.specs.Stimulus.{stim_check}
+use Rattle.model.specs.Stimulus.{stim_check, stim_count}
 use Rattle.model.specs.Acceptance.{panel_limit, file_check}
+use Rattle.file_lines.specs.Answer.{answered, Answers}
 use Rattle.file_lines.proofs.Stages.{after, stops}
-use Rattle.file_net.specs.Answer.{net_refusal, NetAnswers}
-use Rattle.file_net.specs.declared.NetAnswer.{NetAnswer}
-use Rattle.file_net.specs.declared.NetAnswer.TheVariants.{Accepted as net_accepted}
-use Rattle.file_mod_lines.specs.Answer.{mod_refusal, ModAnswers}
-use Rattle.file_mod_lines.specs.declared.ModAnswer.{ModAnswer}
-use Rattle.file_mod_lines.specs.declared.ModAnswer.TheVariants.{Accepted as mod_accepted}
-use Rattle.file_stim.specs.Answer.{stim_refusal, StimAnswers}
-use Rattle.file_stim.specs.declared.StimAnswer.{StimAnswer}
+use Rattle.file_checks.specs.declared.FileRefusal.{FileRefusal}
+use Rattle.file_checks.specs.Answer.{file_refusal}
 
 module _ (net modfile stim : List ℕ) where
   abbrev all_files : Check
   all_files = file_check panel_limit (files_of net modfile stim)
 
-  pub net_stops : (r : NetAnswer) → NetAnswers net (net_check 4096 net) r → ((n : ℕ) → r ≡ net_accepted n → ⊥) → net_refusal r ≡ all_files
+  pub net_stops : {r : Result (Unit {0}) FileRefusal} → Answers file_refusal tt (net_check 4096 net) r → {e : FileRefusal} → r ≡ Err e
+      → answered file_refusal r ≡ all_files
   unfolding file_check
-  net_stops r answers other = (stops answers (other _) {y = r} _).refuses
+  net_stops answers is = rw is (stops {y = tt {0}} answers is _).refuses
 
   module _ (net-right : net_check 4096 net ≡ pass) where
-    pub mod_stops : (r : ModAnswer) → ModAnswers modfile (mod_check (network net) modfile) r → ((p c : ℕ) → r ≡ mod_accepted p c → ⊥) → mod_refusal r ≡ all_files
+    pub mod_stops : {r : Result (Unit {0}) FileRefusal} → Answers file_refusal tt (mod_check (network net) modfile) r → {e : FileRefusal} → r ≡ Err e
+        → answered file_refusal r ≡ all_files
     unfolding file_check
-    mod_stops r answers other = (after net-right (stops answers (other _ _) {y = r} _)).refuses
+    mod_stops answers is = rw is (after net-right (stops {y = tt {0}} answers is _)).refuses
 
-    pub stim_last : (r : StimAnswer) → mod_check (network net) modfile ≡ pass → StimAnswers stim (stim_check (network net) stim) r
-        → stim_refusal r ≡ all_files
+    pub stim_last : {r : Result ℕ FileRefusal} → mod_check (network net) modfile ≡ pass
+        → Answers file_refusal (stim_count stim) (stim_check (network net) stim) r → answered file_refusal r ≡ all_files
     unfolding file_check
-    stim_last r mod-right answers = (after net-right (after mod-right answers)).refuses
+    stim_last mod-right answers = (after net-right (after mod-right answers)).refuses

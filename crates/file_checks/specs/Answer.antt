@@ -1,8 +1,12 @@
--- The answer of the three files' check: accepted, or a refusal's number and what it returns (01, Refusals).
-use Rattle.model.specs.Refusal.{Check, pass, fail}
-use Rattle.file_checks.specs.declared.FileAnswer.{FileAnswer}
-use Rattle.file_checks.specs.declared.FileAnswer.TheVariants.{Accepted, Refused}
+-- The refusals of the three files: each as its file's check says it (01, Refusals).
+use Rattle.model.specs.Refusal.{Check}
+use Rattle.file_net.specs.Answer.{net_refusal}
+use Rattle.file_mod_lines.specs.Answer.{mod_refusal}
+use Rattle.file_stim.specs.Answer.{stim_refusal}
+use Rattle.file_checks.specs.declared.FileRefusal.{FileRefusal}
+use Rattle.file_checks.specs.declared.FileRefusal.TheVariants.{Net, Mod, Stim}
 
-abbrev pub file_refusal : FileAnswer → Check
-file_refusal Accepted = pass
-file_refusal (Refused number returned) = fail number returned
+abbrev pub file_refusal : FileRefusal → Check
+file_refusal (Net refusal) = net_refusal refusal
+file_refusal (Mod refusal) = mod_refusal refusal
+file_refusal (Stim refusal) = stim_refusal refusal

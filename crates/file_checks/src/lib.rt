@@ -5,87 +5,123 @@
 ghost use Rattle.std.specs.Prelude.{◌≡◌, ◌≤◌, length};
 ghost use Rattle.std.proofs.lemmas.List.Edits.{sets};
 ghost use Rattle.model.specs.Files.{files_of};
+ghost use Rattle.model.specs.Netlist.{network, net_check};
+ghost use Rattle.model.specs.ModuleFile.{mod_check};
+ghost use Rattle.model.specs.Stimulus.{stim_check, stim_count};
 ghost use Rattle.model.specs.Acceptance.{panel_limit, file_check};
-ghost use Rattle.file_net.specs.Answer.{net_refusal};
-ghost use Rattle.file_mod_lines.specs.Answer.{mod_refusal};
-ghost use Rattle.file_stim.specs.Answer.{stim_refusal};
+ghost use Rattle.model.specs.Checked.{Checked};
+ghost use Rattle.file_lines.specs.Answer.{answered, Answers};
 ghost use Rattle.file_checks.specs.Answer.{file_refusal};
 ghost use Rattle.file_checks.specs.Refused.{refused_text};
 
-use file_mod_lines::ModAnswer;
-use file_net::NetAnswer;
-use file_stim::StimAnswer;
+use file_lines::Refusal;
+use file_mod_lines::ModRefusal;
+use file_net::NetRefusal;
+use file_stim::StimRefusal;
 
-// The files are accepted, or refused with a number and what it returns (01, Refusals).
-#[derive(Clone, Copy)]
-pub enum FileAnswer {
-    Accepted,
-    Refused(u8, u16),
+// What the files are refused for: the first refusal, in their order.
+#[derive(Clone, Copy, Debug, PartialEq, Eq)]
+pub enum FileRefusal {
+    Net(NetRefusal),
+    Mod(ModRefusal),
+    Stim(StimRefusal),
 }
 
-// NET's answer, number by number.
-pub fn net_answer(answer: NetAnswer) -> FileAnswer
-    ensures { file_refusal result ≡ net_refusal answer }
-{
-    match answer {
-        NetAnswer::Accepted(_) => FileAnswer::Accepted,
-        NetAnswer::Misformed(line) => FileAnswer::Refused(10, line),
-        NetAnswer::Layout(line) => FileAnswer::Refused(11, line),
-        NetAnswer::Sources(line) => FileAnswer::Refused(12, line),
-        NetAnswer::Chain(signal) => FileAnswer::Refused(13, signal),
+impl Refusal for FileRefusal {
+    ghost use Rattle.file_checks.specs.Answer.{file_refusal};
+
+    ghost refusal = { file_refusal };
+
+    fn told(self) -> (u8, u32) {
+        match self {
+            FileRefusal::Net(refusal) => refusal.told(),
+            FileRefusal::Mod(refusal) => refusal.told(),
+            FileRefusal::Stim(refusal) => refusal.told(),
+        }
     }
 }
 
-// MOD's answer, number by number.
-pub fn mod_answer(answer: ModAnswer) -> FileAnswer
-    ensures { file_refusal result ≡ mod_refusal answer }
-{
-    match answer {
-        ModAnswer::Accepted(_, _) => FileAnswer::Accepted,
-        ModAnswer::Misformed(line) => FileAnswer::Refused(20, line),
-        ModAnswer::Layout(line) => FileAnswer::Refused(21, line),
-        ModAnswer::Placement(signal) => FileAnswer::Refused(22, signal),
-        ModAnswer::Send(line) => FileAnswer::Refused(24, line),
-        ModAnswer::Reception(line) => FileAnswer::Refused(25, line),
-        ModAnswer::WrongOperand(line) => FileAnswer::Refused(23, line),
+impl From<NetRefusal> for FileRefusal {
+    ghost use Rattle.file_checks.specs.declared.FileRefusal.TheVariants.{Net};
+
+    ghost from_gives = { λ refusal result. result ≡ Net refusal };
+
+    fn from(refusal: NetRefusal) -> FileRefusal {
+        FileRefusal::Net(refusal)
     }
 }
 
-// STIM's answer, number by number.
-pub fn stim_answer(answer: StimAnswer) -> FileAnswer
-    ensures { file_refusal result ≡ stim_refusal answer }
-{
-    match answer {
-        StimAnswer::Accepted(_) => FileAnswer::Accepted,
-        StimAnswer::Misformed(line) => FileAnswer::Refused(30, line),
-        StimAnswer::Layout(line) => FileAnswer::Refused(31, line),
-        StimAnswer::NotInput(line) => FileAnswer::Refused(32, line),
+impl From<ModRefusal> for FileRefusal {
+    ghost use Rattle.file_checks.specs.declared.FileRefusal.TheVariants.{Mod};
+
+    ghost from_gives = { λ refusal result. result ≡ Mod refusal };
+
+    fn from(refusal: ModRefusal) -> FileRefusal {
+        FileRefusal::Mod(refusal)
     }
+}
+
+impl From<StimRefusal> for FileRefusal {
+    ghost use Rattle.file_checks.specs.declared.FileRefusal.TheVariants.{Stim};
+
+    ghost from_gives = { λ refusal result. result ≡ Stim refusal };
+
+    fn from(refusal: StimRefusal) -> FileRefusal {
+        FileRefusal::Stim(refusal)
+    }
+}
+
+// NET's check, by the panel's limit.
+pub fn check_net(net: &[u8]) -> Result<(), FileRefusal>
+    ensures { Answers file_refusal tt (net_check panel_limit net.now) result }
+{
+    file_net::check_net(net, 4096)?;
+    Ok(())
+}
+
+// MOD's check, NET being accepted.
+pub fn check_mod(net: &[u8], modfile: &[u8]) -> Result<(), FileRefusal>
+    requires { Checked net.now }
+    ensures { Answers file_refusal tt (mod_check (network net.now) modfile.now) result }
+{
+    file_mod::check_mod(net, modfile)?;
+    Ok(())
+}
+
+// STIM's check, NET being accepted: how many lines stand before its end line.
+pub fn check_stim(net: &[u8], stim: &[u8]) -> Result<u16, FileRefusal>
+    requires { Checked net.now }
+    ensures { Answers file_refusal (stim_count stim.now) (stim_check (network net.now) stim.now) result }
+{
+    let lines = file_stim::check_stim(net, stim)?;
+    Ok(lines)
 }
 
 // "Order: NET, MOD, STIM." The first that breaks its conditions is refused, before the next is read.
-pub fn check_files(net: &[u8], modfile: &[u8], stim: &[u8]) -> FileAnswer
-    ensures { file_refusal result ≡ file_check panel_limit (files_of net.now modfile.now stim.now) }
+pub fn check_files(net: &[u8], modfile: &[u8], stim: &[u8]) -> Result<(), FileRefusal>
+    ensures { answered file_refusal result ≡ file_check panel_limit (files_of net.now modfile.now stim.now) }
 {
-    let first = file_net::check_net(net, 4096);
-    let NetAnswer::Accepted(_) = first else {
-        return net_answer(first);
+    let first = check_net(net);
+    let Ok(()) = first else {
+        return first;
     };
-    let second = file_mod::check_mod(net, modfile);
-    let ModAnswer::Accepted(_, _) = second else {
-        return mod_answer(second);
+    let second = check_mod(net, modfile);
+    let Ok(()) = second else {
+        return second;
     };
-    stim_answer(file_stim::check_stim(net, stim))
+    check_stim(net, stim)?;
+    Ok(())
 }
 
 // "prints one line of two fields, number and returned value": nothing where the files are accepted.
-pub fn write_refusal(answer: FileAnswer, out: &mut [u8]) -> usize
+pub fn write_refusal(answer: Result<(), FileRefusal>, out: &mut [u8]) -> usize
     requires { 13 ≤ length out.old }
-    ensures value { result ≡ length (refused_text (file_refusal answer)) }
-    ensures out_after { out.new ≡ sets out.old 0 (refused_text (file_refusal answer)) }
+    ensures value { result ≡ length (refused_text (answered file_refusal answer)) }
+    ensures out_after { out.new ≡ sets out.old 0 (refused_text (answered file_refusal answer)) }
 {
-    let FileAnswer::Refused(number, returned) = answer else {
+    let Err(refusal) = answer else {
         return 0;
     };
-    writing::write_line(out, 0, &[number as u16, returned])
+    let (number, returned) = refusal.told();
+    writing::write_line(out, 0, &[u16::from(number), returned as u16])
 }

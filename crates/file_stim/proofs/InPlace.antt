@@ -11,6 +11,7 @@ use Rattle.model.specs.Network.{is_signal}
 use Rattle.model.specs.Netlist.{network}
 use Rattle.model.specs.Checked.{Checked}
 use Rattle.model.proofs.Checked.{checked_field}
+use Rattle.logic.proofs.Judged.{connected}
 
 module _ (net : List ℕ) (checked : Checked net) where
   pub size_field : is_field_at net 6 ≡ true
@@ -27,3 +28,5 @@ size_is net = refl
 pub kind_is : (net : List ℕ) (s : ℕ) → (network net).kind s ≡ number_at net (73 * s)
 unfolding network
 kind_is net s = let e : 73 * s + 6 * 0 ≡ 73 * s = omega arith in rw e
+
+pub ruleset size_read = (connected, size_field, size_is)

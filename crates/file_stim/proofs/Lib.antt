@@ -1,5 +1,5 @@
+pub mod Rising
 pub mod InPlace
-pub mod Given
 pub mod Judging
 pub mod Lines
 pub mod Steps

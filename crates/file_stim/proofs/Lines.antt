@@ -9,23 +9,22 @@ use lib.Dec.{leb}
 use native.Mathlib.Decide.{ℕ_discrete}
 use lib.ListN.{length, get_or, set, length-set}
 use lib.Seq.{get_or-set_same, get_or-set_other}
-use Rattle.std.specs.Prelude.{if◌then◌else◌}
+use Rattle.std.specs.Prelude.{Result, Ok, Err}
 use Rattle.fields.specs.Field.{number_at}
 use Rattle.fields.specs.Line.{is_line_at}
-use Rattle.model.specs.Refusal.{first, unless}
+use Rattle.model.specs.Refusal.{pass, first, unless}
 use Rattle.model.specs.Network.{Network}
 use Rattle.model.specs.Stimulus.{stim_line, stim_limit, is_end, stim_given, stim_end, stim_lines, stim_check, lines_before, stim_count}
 use Rattle.model.proofs.Refusals.{first_second}
+use Rattle.file_lines.specs.Answer.{answered}
 use Rattle.file_lines.proofs.Stages.{refused, renamed, stays}
 use Rattle.file_lines.proofs.Lines.{test_stops}
-use Rattle.file_stim.specs.declared.StimAnswer.{StimAnswer}
-use Rattle.file_stim.specs.declared.StimAnswer.TheVariants.{Accepted, Misformed}
-use Rattle.file_stim.specs.declared.Numbers.{Numbers}
-use Rattle.file_stim.specs.declared.Judged.{Judged}
-use Rattle.file_stim.specs.declared.Judged.TheVariants.{ReadOn, Answered}
+use Rattle.file_stim.specs.declared.StimRefusal.{StimRefusal}
+use Rattle.file_stim.specs.declared.StimRefusal.TheVariants.{Misformed}
+use Rattle.file_stim.specs.declared.Line.{Line}
 use Rattle.file_stim.specs.Answer.{stim_refusal, StimAnswers}
-use Rattle.file_stim.specs.Judging.{numbers_of, numbers_before, judged_end, judged_given, judged}
-use Rattle.file_stim.proofs.Judging.{ends_is, judged_refusal, given_is, end_is, never_given, end_accepts}
+use Rattle.file_stim.specs.Judging.{numbers_of, numbers_before, ends, judged_end, judged_given}
+use Rattle.file_stim.proofs.Judging.{ends_is, not_passed, given_is, end_is, end_accepts}
 
 -- Every line below index is right and gives a value, so that the check and the count are those of the lines from there on
 pub record Reached (n : Network) (stim : List ℕ) (index : ℕ) : Type 0 where
@@ -39,7 +38,7 @@ reached_first n stim = record { few = omega arith; check = refl; count = refl }
 
 -- "At most 65534 lines": line 65535 is missing or surplus
 pub limit_reached : (n : Network) (stim : List ℕ) (index : ℕ) → Reached n stim index → stim_limit ≤ index
-    → StimAnswers stim (stim_check n stim) (Misformed 65535)
+    → StimAnswers stim (stim_check n stim) (Err (Misformed 65535))
 unfolding stim_lines unless
 limit_reached n stim index reached h =
     let end : index ≡ stim_limit = omega (arith, reached.few) in
@@ -49,7 +48,7 @@ module _ (n : Network) (stim : List ℕ) (index : ℕ) (reached : Reached n stim
   left : stim_limit - index ≡ suc (stim_limit - (index + 1))
   left = omega arith
 
-  pub misformed : is_line_at stim (stim_line index) 3 ≡ false → StimAnswers stim (stim_check n stim) (Misformed (index + 1))
+  pub misformed : is_line_at stim (stim_line index) 3 ≡ false → StimAnswers stim (stim_check n stim) (Err (Misformed (index + 1)))
   unfolding stim_lines
   misformed e = refused refl (reached.check ∙ rw left (test_stops _ 30 (index + 1) _ e))
 
@@ -74,61 +73,49 @@ module _ (n : Network) (stim : List ℕ) (index : ℕ) (reached : Reached n stim
     unfolding stim_lines first unless
     check_next e = reached.check ∙ rw (left, form, e)
 
-    given_check : stim_given n stim index ≡ judged_refusal (judged_given n index (numbers_before stim index) (numbers_of stim index))
-    given_check = sym (given_is n stim index)
+    -- the line, judged by its numbers and those in hand
+    module _ {before here : Line} (in_hand : before ≡ numbers_before stim index) (numbers : here ≡ numbers_of stim index) where
+      ended : {b : Bool} → b ≡ ends here → is_end stim index ≡ b
+      ended e = sym (ends_is stim index) ∙ ap ends (sym numbers) ∙ sym e
 
-    pub line_answers : (a : StimAnswer) → judged n index last (numbers_before stim index) (numbers_of stim index) ≡ Answered a
-        → StimAnswers stim (stim_check n stim) a
-    unfolding judged
-    line_answers a = rw (ends_is stim index) (go (is_end stim index) refl)
-      where
-        go : (b : Bool) → is_end stim index ≡ b
-            → (if b then Answered (judged_end index last (numbers_before stim index) (numbers_of stim index))
-            else judged_given n index (numbers_before stim index) (numbers_of stim index))
-            ≡ Answered a
-            → StimAnswers stim (stim_check n stim) a
-        go true e q =
-            let is : a ≡ judged_end index last (numbers_before stim index) (numbers_of stim index) = cc in
-            let refusal = ap stim_refusal is ∙ end_is n stim index ∙ sym (check_end e) in
-            record {
-              refuses = refusal;
-              accepts =
-                  λ p.
-                  is ∙ end_accepts index last _ _ (ap stim_refusal (sym is) ∙ refusal ∙ p) ∙ ap Accepted (sym (count_end e));
-            }
-        go false e q =
-            let is = given_check ∙ ap judged_refusal q in
-            renamed refl (sym (check_next e)) (stays _ (sym is) (λ p. never_given n index _ _ a q (sym is ∙ p)))
+      module _ {r : Result Unit StimRefusal} (e : false ≡ ends here) (judged : r ≡ judged_given n index before here) where
+        given_check : stim_given n stim index ≡ answered stim_refusal r
+        given_check = sym (given_is n stim index) ∙ rw (← in_hand, ← numbers) (ap (answered stim_refusal) (sym judged))
 
-    pub line_passed : judged n index last (numbers_before stim index) (numbers_of stim index) ≡ ReadOn → Reached n stim (index + 1)
-    unfolding judged
-    line_passed = rw (ends_is stim index) (go (is_end stim index) refl)
-      where
-        go : (b : Bool) → is_end stim index ≡ b
-            → (if b then Answered (judged_end index last (numbers_before stim index) (numbers_of stim index))
-            else judged_given n index (numbers_before stim index) (numbers_of stim index))
-            ≡ ReadOn
-            → Reached n stim (index + 1)
-        go true e q = absurd (let z : ◌≡◌ {A = ℕ} 0 1 = cc in omega arith)
-        go false e q =
+        pub given_wrong : {refusal : StimRefusal} → r ≡ Err refusal → StimAnswers stim (stim_check n stim) (Err refusal)
+        given_wrong {refusal} q =
+            let is = given_check ∙ ap (answered stim_refusal) q in
+            renamed refl (sym (check_next (ended e))) (stays _ (sym is) (λ p. not_passed refusal (sym is ∙ p)))
+
+        pub line_passed : ((refusal : StimRefusal) → r ≡ Err refusal → ⊥) → Reached n stim (index + 1)
+        line_passed other =
             record {
               few = omega arith;
-              check = check_next e ∙ first_second _ _ (given_check ∙ ap judged_refusal q);
-              count = count_next e;
+              check = check_next (ended e) ∙ first_second _ _ (given_check ∙ right r other);
+              count = count_next (ended e);
             }
+          where
+            right : (r : Result Unit StimRefusal) → ((refusal : StimRefusal) → r ≡ Err refusal → ⊥) → answered stim_refusal r ≡ pass
+            right (Ok u) d = refl
+            right (Err refusal) d = absurd (d refusal refl)
+
+      pub end_answers : true ≡ ends here → (at : ℕ) → at ≡ 19 * index → {r : Result ℕ StimRefusal}
+          → r ≡ judged_end index (leb (length stim) (at + 19)) before here → StimAnswers stim (stim_check n stim) r
+      end_answers e at place {r} judged =
+          let same : at + 19 ≡ stim_line (index + 1) = omega arith in
+          let is : r ≡ judged_end index last (numbers_before stim index) (numbers_of stim index) = judged ∙ rw (in_hand, numbers, same) in
+          let refusal = ap (answered stim_refusal) is ∙ end_is n stim index ∙ sym (check_end (ended e)) in
+          record {
+            refuses = refusal;
+            accepts =
+                λ p.
+                is ∙ end_accepts index last _ _ (ap (answered stim_refusal) (sym is) ∙ refusal ∙ p) ∙ ap Ok (sym (count_end (ended e)));
+          }
 
 -- the numbers in hand at the next line
-pub next_before : (stim : List ℕ) (index : ℕ) (here : Numbers) → here ≡ numbers_of stim index → here ≡ numbers_before stim (index + 1)
+pub next_before : (stim : List ℕ) (index : ℕ) (here : Line) → here ≡ numbers_of stim index → here ≡ numbers_before stim (index + 1)
 unfolding numbers_before
 next_before stim index here e = rw add-one e
-
--- a line judged by the numbers in hand, byte 10 standing at a place
-pub judged_here : (n : Network) (stim : List ℕ) (index at : ℕ) (before here : Numbers) (j : Judged) → before ≡ numbers_before stim index
-    → here ≡ numbers_of stim index → at ≡ 19 * index + 18 → j ≡ judged n index (leb (length stim) (at + 1)) before here
-    → judged n index (leb (length stim) (stim_line (index + 1))) (numbers_before stim index) (numbers_of stim index) ≡ j
-judged_here n stim index at before here j b h e q =
-    let place : at + 1 ≡ stim_line (index + 1) = omega arith in
-    rw (← b, ← h, ← place) (sym q)
 
 -- the numbers of a line's first fields, as the loop over them collects them
 pub record NumbersRead (stim : List ℕ) (at k : ℕ) (numbers : List ℕ) : Type 0 where

@@ -9,34 +9,40 @@ ghost use Rattle.model.specs.Netlist.{network};
 ghost use Rattle.model.specs.Stimulus.{stim_line, stim_limit, stim_check};
 ghost use Rattle.model.specs.Checked.{Checked};
 ghost use Rattle.file_stim.specs.Answer.{StimAnswers};
-ghost use Rattle.file_stim.specs.Stepping.{step_at};
-ghost use Rattle.file_stim.specs.Judging.{numbers_of, ends, rises, judged_end, judged_given, judged};
+ghost use Rattle.file_stim.specs.Stepping.{step_at, step_of};
+ghost use Rattle.file_stim.specs.Judging.{numbers_of, ends, rises, gives, may, judged_end, judged_given};
 
 use clock::Cycle;
-use fields::Field;
+use file_lines::Refusal;
 
-// What the check answers: how many lines stand before the end line; or the line of a refusal, 30, 31 or 32 in this order.
-#[derive(Clone, Copy)]
-pub enum StimAnswer {
-    Accepted(u16),
+// What STIM is refused for, with the line.
+#[derive(Clone, Copy, Debug, PartialEq, Eq)]
+pub enum StimRefusal {
     Misformed(u16),
     Layout(u16),
     NotInput(u16),
 }
 
-// The numbers of a line.
-#[derive(Clone, Copy)]
-struct Numbers {
-    time: Cycle,
-    signal: u16,
-    value: u16,
+impl Refusal for StimRefusal {
+    ghost use Rattle.file_stim.specs.Answer.{stim_refusal};
+
+    ghost refusal = { stim_refusal };
+
+    fn told(self) -> (u8, u32) {
+        match self {
+            StimRefusal::Misformed(line) => (30, u32::from(line)),
+            StimRefusal::Layout(line) => (31, u32::from(line)),
+            StimRefusal::NotInput(line) => (32, u32::from(line)),
+        }
+    }
 }
 
-// Whether a well-formed line lets checking go on, or decides the answer.
+// What a line says: a signal's value at a time; or T, 0, 0.
 #[derive(Clone, Copy)]
-enum Judged {
-    ReadOn,
-    Answered(StimAnswer),
+pub struct Line {
+    pub time: Cycle,
+    pub signal: u16,
+    pub value: u16,
 }
 
 // A place among the lines: how many are passed, and so the index of the next.
@@ -45,59 +51,46 @@ pub struct Cursor {
     pub line: usize,
 }
 
-// What a line says: time, signal and value, with the cursor after it; or T, where it is the end line.
-#[derive(Clone, Copy)]
-pub enum Step {
-    Given(Cycle, u16, u16, Cursor),
-    End(Cycle),
-}
+impl Line {
+    // "The last line is T, 0, 0".
+    #[tactic(auto, using(logic::proofs::Judged::connected), unfolding(crate::specs::Judging::ends))]
+    fn is_end(self) -> bool
+        ensures { result ≡ ends self }
+    {
+        self.signal == 0 && self.value == 0
+    }
 
-// "The last line is T, 0, 0".
-fn is_end(here: Numbers) -> bool
-    ensures { result ≡ ends here }
-{
-    if here.signal == 0 {
-        return here.value == 0;
+    // "Strictly rising by time and then signal".
+    #[tactic(auto, using(crate::proofs::Rising::pairs_rise), unfolding(crate::specs::Judging::rises))]
+    fn is_above(self, before: Line) -> bool
+        ensures { result ≡ rises before self }
+    {
+        (before.time.0, before.signal) < (self.time.0, self.signal)
     }
-    false
-}
-
-// "Strictly rising by time and then signal".
-fn is_above(before: Numbers, here: Numbers) -> bool
-    ensures { result ≡ rises before here }
-{
-    if before.time.0 < here.time.0 {
-        return true;
-    }
-    if before.time.0 == here.time.0 {
-        return before.signal < here.signal;
-    }
-    false
 }
 
 // The end line: 31 where T is below the time before it, then 30 for a surplus line after it.
-fn judge_end(index: u16, last: bool, before: Numbers, here: Numbers) -> StimAnswer
+#[tactic(auto, using(logic::proofs::Judged::connected), unfolding(crate::specs::Judging::judged_end))]
+fn judge_end(index: u16, last: bool, before: Line, here: Line) -> Result<u16, StimRefusal>
     requires { index < stim_limit }
     ensures { result ≡ judged_end index last before here }
 {
     if here.time.0 < before.time.0 {
-        return StimAnswer::Layout(index + 1);
+        return Err(StimRefusal::Layout(index + 1));
     }
-    if last {
-        return StimAnswer::Accepted(index);
+    if !last {
+        return Err(StimRefusal::Misformed(index + 2));
     }
-    StimAnswer::Misformed(index + 2)
+    Ok(index)
 }
 
 // "A signal is 1 to N".
+#[tactic(auto, using(crate::proofs::InPlace::size_read), unfolding(model::specs::Network::is_signal))]
 fn is_signal(net: &[u8], s: u16) -> bool
     requires { Checked net.now }
     ensures { result ≡ is_signal (network net.now) s }
 {
-    if s == 0 {
-        return false;
-    }
-    s <= fields::number_at(net, 6)
+    1 <= s && s <= fields::number_at(net, 6)
 }
 
 // NET has the signal s as an input. Its kind is read in place, the first field of its line.
@@ -106,117 +99,123 @@ fn is_input(net: &[u8], s: u16) -> bool
     requires s_value { is_signal (network net.now) s ≡ true }
     ensures { result ≡ eqb ((network net.now).kind s) input }
 {
-    fields::number_at(net, 73 * (s as usize)) == 1
+    fields::number_at(net, 73 * usize::from(s)) == 1
+}
+
+// A line that gives a value has its signal, its value and its place in the order right.
+#[tactic(auto, using(logic::proofs::Judged::connected), unfolding(crate::specs::Judging::gives))]
+fn gives_value(net: &[u8], before: Line, here: Line) -> bool
+    requires { Checked net.now }
+    ensures { result ≡ gives (network net.now) before here }
+{
+    is_signal(net, here.signal) && here.value <= 3 && here.is_above(before)
+}
+
+// "Time 0 may name any signal, a later time only inputs."
+#[tactic(auto, using(logic::proofs::Judged::connected), unfolding(crate::specs::Judging::may))]
+fn may_give(net: &[u8], here: Line) -> bool
+    requires checked { Checked net.now }
+    requires of_signal { is_signal (network net.now) here.signal ≡ true }
+    ensures { result ≡ may (network net.now) here }
+{
+    here.time.0 == 0 || is_input(net, here.signal)
 }
 
 // A line that gives a value: 31 where the signal, the value or the order is wrong, then 32 for a gate at a later time.
-fn judge_given(net: &[u8], index: u16, before: Numbers, here: Numbers) -> Judged
+#[tactic(auto, using(crate::proofs::Judging::gives_signal), unfolding(crate::specs::Judging::judged_given))]
+fn judge_given(net: &[u8], index: u16, before: Line, here: Line) -> Result<(), StimRefusal>
     requires checked { Checked net.now }
     requires index_lt_stim_limit { index < stim_limit }
     ensures { result ≡ judged_given (network net.now) index before here }
 {
-    if !is_signal(net, here.signal) {
-        return Judged::Answered(StimAnswer::Layout(index + 1));
+    if !gives_value(net, before, here) {
+        return Err(StimRefusal::Layout(index + 1));
     }
-    if 3 < here.value {
-        return Judged::Answered(StimAnswer::Layout(index + 1));
+    if !may_give(net, here) {
+        return Err(StimRefusal::NotInput(index + 1));
     }
-    if !is_above(before, here) {
-        return Judged::Answered(StimAnswer::Layout(index + 1));
-    }
-    if here.time.0 == 0 {
-        return Judged::ReadOn;
-    }
-    if is_input(net, here.signal) {
-        return Judged::ReadOn;
-    }
-    Judged::Answered(StimAnswer::NotInput(index + 1))
-}
-
-// A right line, the last of the file or not, by its numbers and those of the line before it, zeros before line 1.
-fn judge(net: &[u8], index: u16, last: bool, before: Numbers, here: Numbers) -> Judged
-    requires checked { Checked net.now }
-    requires index_lt_stim_limit { index < stim_limit }
-    ensures { result ≡ judged (network net.now) index last before here }
-{
-    if is_end(here) {
-        return Judged::Answered(judge_end(index, last, before, here));
-    }
-    judge_given(net, index, before, here)
-}
-
-// The numbers of a right line.
-fn numbers_at(stim: &[u8], line: usize) -> Numbers
-    requires { is_line_at stim.now (stim_line line) 3 ≡ true }
-    ensures { result ≡ numbers_of stim.now line }
-{
-    let at = 19 * line;
-    Numbers {
-        time: Cycle(fields::number_at(stim, at)),
-        signal: fields::number_at(stim, at + 6),
-        value: fields::number_at(stim, at + 12),
-    }
+    Ok(())
 }
 
 // STIM's check, NET being accepted: its lines in order, 30 before 31 before 32 in each, and left at the first fault with its line or at
-// the end line. "At most 65534 lines": line 65535 is missing or surplus.
-pub fn check_stim(net: &[u8], stim: &[u8]) -> StimAnswer
+// the end line, with the number of lines before it. "At most 65534 lines": line 65535 is missing or surplus.
+pub fn check_stim(net: &[u8], stim: &[u8]) -> Result<u16, StimRefusal>
     requires { Checked net.now }
     ensures { StimAnswers stim.now (stim_check (network net.now) stim.now) result }
 {
-    let mut answer = StimAnswer::Misformed(65535);
-    let mut before = Numbers {
+    let mut answer = Err(StimRefusal::Misformed(65535));
+    let mut before = Line {
         time: Cycle(0),
         signal: 0,
         value: 0,
     };
-    let mut index: u16 = 0;
-    'lines: while index < 65534 {
+    'lines: for index in 0..65534 {
+        let at = 19 * usize::from(index);
         let mut numbers = [0u16; 3];
-        let mut at = 19 * (index as usize);
-        let mut column: usize = 0;
-        while column < 3 {
-            let Field::Number(n, next) = fields::read_field(stim, at) else {
-                answer = StimAnswer::Misformed(index + 1);
+        for column in 0..3 {
+            let Some((number, _)) = fields::read_field(stim, at + 6 * column) else {
+                answer = Err(StimRefusal::Misformed(index + 1));
                 break 'lines;
             };
-            numbers[column] = n;
-            at = next;
-            column += 1;
+            numbers[column] = number;
         }
-        if !fields::ends_line(stim, at) {
-            answer = StimAnswer::Misformed(index + 1);
+        if !fields::ends_line(stim, at + 18) {
+            answer = Err(StimRefusal::Misformed(index + 1));
             break 'lines;
         }
-        let here = Numbers {
+        let here = Line {
             time: Cycle(numbers[0]),
             signal: numbers[1],
             value: numbers[2],
         };
-        let judged = judge(net, index, stim.len() <= at + 1, before, here);
-        if let Judged::Answered(found) = judged {
-            answer = found;
+        if here.is_end() {
+            answer = judge_end(index, stim.len() <= at + 19, before, here);
+            break 'lines;
+        }
+        if let Err(refusal) = judge_given(net, index, before, here) {
+            answer = Err(refusal);
             break 'lines;
         }
         before = here;
-        index += 1;
     }
     answer
 }
 
 impl Cursor {
     // What the line at the cursor says. In an accepted STIM each line up to the end line is right.
-    pub fn next(self, stim: &[u8]) -> Step
+    #[tactic(auto, using(crate::proofs::Steps::line_fields))]
+    pub fn here(self, stim: &[u8]) -> Line
+        requires { is_line_at stim.now (stim_line self.line) 3 ≡ true }
+        ensures { result ≡ numbers_of stim.now self.line }
+    {
+        let at = 19 * self.line;
+        Line {
+            time: Cycle(fields::number_at(stim, at)),
+            signal: fields::number_at(stim, at + 6),
+            value: fields::number_at(stim, at + 12),
+        }
+    }
+
+    // The line at the cursor, which gives a value, with the cursor after it; none at the end line.
+    pub fn next(self, stim: &[u8]) -> Option<(Line, Cursor)>
         requires { is_line_at stim.now (stim_line self.line) 3 ≡ true }
         ensures { result ≡ step_at stim.now self.line }
     {
-        let line = self.line;
-        let here = numbers_at(stim, line);
-        if is_end(here) {
-            let end = here.time;
-            return Step::End(end);
+        let here = self.here(stim);
+        if here.is_end() {
+            return None;
         }
-        let time = here.time;
-        Step::Given(time, here.signal, here.value, Cursor { line: line + 1 })
+        let after = Cursor {
+            line: self.line + 1,
+        };
+        Some((here, after))
+    }
+
+    // The same, where the line is of a time; none at a line of another time, too.
+    pub fn next_of(self, stim: &[u8], time: Cycle) -> Option<(Line, Cursor)>
+        requires { is_line_at stim.now (stim_line self.line) 3 ≡ true }
+        ensures { result ≡ step_of stim.now time.0 self.line }
+    {
+        self.next(stim).filter(|(line, _)| line.time.0 == time.0)
     }
 }

@@ -26,9 +26,10 @@ use Rattle.buffers_tables.proofs.Hands.{hands_length, hands_hand, hands_else, ha
 use Rattle.session_state.proofs.Commands.{input_signal, input_kind, signal_low, signal_high, set_no_signal, set_no_value, set_done}
 use Rattle.laws_kept.specs.InRange.{InRange}
 use Rattle.laws_kept.proofs.Panels.{replaced_code, replaced_else, head_in_range, same_ranged}
+use Rattle.file_stim.specs.declared.Line.{Line}
 use Rattle.file_stim.specs.declared.Cursor.{Cursor}
 use Rattle.file_stim.proofs.Steps.{GivenAt}
-use Rattle.listing_cycle.specs.Feeding.{PanelInputs, InHand, Fed}
+use Rattle.listing_cycle.specs.Feeding.{Passed, PanelInputs, InHand, Fed}
 use Rattle.listing_cycle.specs.Cycling.{RightBuffers}
 
 -- a line of a later time sets an input of the panel
@@ -117,23 +118,23 @@ module _ {stim before : List ℕ} {t line : ℕ} {panel : List ℕ} {at : ℕ} (
   pub fed_signals : signals_in before ≤ 4096 → signals_in panel ≤ 4096
   fed_signals few = rw fed_fixed.signals few
 
-  module _ {time signal value : ℕ} {next : Cursor} (g : GivenAt stim at time signal value next) (now : time ≡ t) where
+  module _ {given : Line} {next : Cursor} (g : GivenAt stim t at given next) where
     -- the value in hand after an accepted setting is what one line more gives
     hand_more : (n : Network) → (hand : ℕ → ℕ) → ((s : ℕ) → Signal n s → n.kind s ≡ input → hand s ≡ last_given stim t s at)
-        → (s : ℕ) → Signal n s → n.kind s ≡ input → replaced hand signal value s ≡ last_given stim t s (suc at)
+        → (s : ℕ) → Signal n s → n.kind s ≡ input → replaced hand given.signal given.value s ≡ last_given stim t s (suc at)
     unfolding last_given ◌and◌ replaced
-    hand_more n hand given s a i = go (ℕ_discrete s signal)
+    hand_more n hand so_far s a i = go (ℕ_discrete s given.signal)
       where
         early : leb (stim_time stim at) t ≡ true
-        early = le-leb (stim_time stim at) t (omega (arith, g.time_is, now))
+        early = le-leb (stim_time stim at) t (omega (arith, g.time_is))
 
-        go : Dec (s ≡ signal) → replaced hand signal value s ≡ last_given stim t s (suc at)
-        go (yes e) = rw (eq-eqb s signal e, eq-eqb (stim_signal stim at) s (sym g.signal_is ∙ sym e), early) g.value_is
-        go (no d) = rw (ne_eqb s signal d, ne_eqb (stim_signal stim at) s (λ q. d (sym q ∙ sym g.signal_is))) (given s a i)
+        go : Dec (s ≡ given.signal) → replaced hand given.signal given.value s ≡ last_given stim t s (suc at)
+        go (yes e) = rw (eq-eqb s given.signal e, eq-eqb (stim_signal stim at) s (sym g.signal_is ∙ sym e), early) g.value_is
+        go (no d) = rw (ne_eqb s given.signal d, ne_eqb (stim_signal stim at) s (λ q. d (sym q ∙ sym g.signal_is))) (so_far s a i)
 
     -- the panel that the setting leaves
     pub fed_more : signals_in before ≤ 4096 → (finished : ℕ) (watch : Watch) (after : List ℕ)
-        → after ≡ with_hands (commanded panel [] [] (record { finished = finished; hand = hand_in panel; watch = watch }) (set signal value)).head.hand panel
+        → after ≡ with_hands (commanded panel [] [] (record { finished = finished; hand = hand_in panel; watch = watch }) (set given.signal given.value)).head.hand panel
         → Fed stim before t line after next.line
     fed_more few finished watch after e =
         subst (λ (x : ℕ). Fed stim before t line after x) (sym (g.follows ∙ add-one at)) more
@@ -144,20 +145,20 @@ module _ {stim before : List ℕ} {t line : ℕ} {panel : List ℕ} {at : ℕ} (
         low : at < stim_count stim
         low = g.before_end
 
-        there : (s : ℕ) → 1 ≤ s → s ≤ 4096 → hand_in after s ≡ handed panel h signal value s
-        there s a b = ap (λ (x : List ℕ). hand_in x s) e ∙ hands_hand (handed panel h signal value) panel s a b
+        there : (s : ℕ) → 1 ≤ s → s ≤ 4096 → hand_in after s ≡ handed panel h given.signal given.value s
+        there s a b = ap (λ (x : List ℕ). hand_in x s) e ∙ hands_hand (handed panel h given.signal given.value) panel s a b
 
         passed : (k : ℕ) → line ≤ k → k < suc at → Dec (k ≡ at) → stim_time stim k ≡ t
-        passed k l u (yes q) = rw q (sym g.time_is ∙ now)
+        passed k l u (yes q) = rw q g.time_is
         passed k l u (no d) = fed.times k l (omega arith)
 
         hands : (n : Network) → PanelInputs n stim before → 1 ≤ t → InHand n stim t line before → InHand n stim t (suc at) after
         hands n feeds l hand s a i =
             let right = (stim_right n stim feeds.passes).given at low in
-            let is = same_input fed_fixed few signal ∙ line_input feeds at low (omega (arith, g.time_is, now)) signal g.signal_is in
+            let is = same_input fed_fixed few given.signal ∙ line_input feeds at low (omega (arith, g.time_is)) given.signal g.signal_is in
             let known = signal_high before s (input_signal before s (feeds.inputs s a i)) in
             there s a.low (omega arith)
-            ∙ ap (λ (o : Outcome Memory). o.head.hand s) (set_done panel [] [] h signal value is (omega (arith, g.value_is, right.value)))
+            ∙ ap (λ (o : Outcome Memory). o.head.hand s) (set_done panel [] [] h given.signal given.value is (omega (arith, g.value_is, right.value)))
             ∙ hand_more n (hand_in panel) (fed.hands n feeds l hand) s a i
 
         more : Fed stim before t line after (suc at)
@@ -167,12 +168,12 @@ module _ {stim before : List ℕ} {t line : ℕ} {panel : List ℕ} {at : ℕ} (
               few = omega arith;
               times = λ k l u. passed k l u (ℕ_discrete k at);
               only =
-                  e ∙ ap (with_hands (handed panel h signal value)) fed.only
-                  ∙ hands_over (handed panel h signal value) (hand_in panel) before
-                  ∙ hands_same (handed panel h signal value) (hand_in after) before (λ s a b. sym (there s a b));
+                  e ∙ ap (with_hands (handed panel h given.signal given.value)) fed.only
+                  ∙ hands_over (handed panel h given.signal given.value) (hand_in panel) before
+                  ∙ hands_same (handed panel h given.signal given.value) (hand_in after) before (λ s a b. sym (there s a b));
               gates = λ s a b q.
-                  there s a b ∙ set_gate panel h signal value s (same_input fed_fixed few s ∙ q) ∙ fed.gates s a b q;
-              codes = λ s a b l. rw (there s a b) (set_code panel h signal value s (fed.codes s a b l));
+                  there s a b ∙ set_gate panel h given.signal given.value s (same_input fed_fixed few s ∙ q) ∙ fed.gates s a b q;
+              codes = λ s a b l. rw (there s a b) (set_code panel h given.signal given.value s (fed.codes s a b l));
               hands = hands;
             }
 
@@ -211,11 +212,15 @@ pub record Skipped (stim : List ℕ) (line : ℕ) : Type 0 where
   pub few : line ≤ stim_count stim
   pub earlier : (k : ℕ) → k < line → stim_time stim k ≤ 0
 
-pub skipped_more : {stim : List ℕ} {line time signal value : ℕ} {next : Cursor} → Skipped stim line → GivenAt stim line time signal value next
-    → time ≡ 0 → Skipped stim next.line
-skipped_more {stim} {line} {next = next} so_far g zeroth =
+pub skipped_more : {stim : List ℕ} {line : ℕ} {given : Line} {next : Cursor} → Skipped stim line → GivenAt stim 0 line given next
+    → Skipped stim next.line
+skipped_more {stim} {line} {next = next} so_far g =
     record { few = omega (arith, g.before_end, g.follows); earlier = λ k l. at k l (ℕ_discrete k line) }
   where
     at : (k : ℕ) → k < next.line → Dec (k ≡ line) → stim_time stim k ≤ 0
-    at k l (yes q) = rw q (omega (arith, g.time_is, zeroth))
+    at k l (yes q) = rw q (omega (arith, g.time_is))
     at k l (no d) = so_far.earlier k (omega (arith, g.follows))
+
+-- up to the first later one
+pub skipped_ends : {stim : List ℕ} {line : ℕ} → Skipped stim line → (line < stim_count stim → stim_time stim line ≡ 0 → ⊥) → Passed stim 0 line
+skipped_ends so_far other = record { few = so_far.few; earlier = so_far.earlier; later = λ h. omega (arith, other h) }

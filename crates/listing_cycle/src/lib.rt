@@ -13,7 +13,7 @@ ghost use Rattle.listing_cycle.specs.Feeding.{Stimulus, Passed, Fed, SameNumbers
 ghost use Rattle.listing_cycle.specs.Cycling.{Ready, OneMore};
 
 use clock::Cycle;
-use file_stim::{Cursor, Step};
+use file_stim::Cursor;
 use gates::TruthTables;
 use session_state::Session;
 
@@ -80,15 +80,10 @@ pub fn first_later(stim: &[u8]) -> Cursor
     ensures { Passed stim.now 0 result.line }
 {
     let mut cursor = Cursor { line: 0 };
-    loop {
-        let Step::Given(time, _, _, next) = cursor.next(stim) else {
-            return cursor;
-        };
-        if time.0 != 0 {
-            return cursor;
-        }
+    while let Some((_, next)) = cursor.next_of(stim, Cycle(0)) {
         cursor = next;
     }
+    cursor
 }
 
 // T, from the end line.
@@ -98,12 +93,9 @@ pub fn end_time(stim: &[u8], lines: u16) -> Cycle
     ensures { result.0 ≡ end_time stim.now }
 {
     let last = Cursor {
-        line: lines as usize,
+        line: usize::from(lines),
     };
-    match last.next(stim) {
-        Step::Given(_, _, _, _) => Cycle(0),
-        Step::End(time) => time,
-    }
+    last.here(stim).time
 }
 
 // The settings of a time, each an accepted command of the session, which writes its value into the panel.
@@ -123,17 +115,12 @@ pub fn take_settings(
 {
     let mut session = session;
     let mut cursor = cursor;
-    loop {
-        let Step::Given(at, signal, value, next) = cursor.next(stim) else {
-            return Settled { session, cursor };
-        };
-        if at.0 != time.0 {
-            return Settled { session, cursor };
-        }
-        let told = session.set(panel, signal as u32, value as u32);
+    while let Some((line, next)) = cursor.next_of(stim, time) {
+        let told = session.set(panel, u32::from(line.signal), u32::from(line.value));
         session = told.session;
         cursor = next;
     }
+    Settled { session, cursor }
 }
 
 // One cycle with the values in hand: "run k cycles" with k = 1 and a mask that watches nothing.

@@ -4,8 +4,8 @@ use Rattle.model.specs.Stimulus.{stim_count}
 use Rattle.buffers_load_values.proofs.Values.{GivenTo}
 use Rattle.buffers_load_values.proofs.load_values.Given as goal
 
-abbrev pub invariant-loop-time : goal.invariant-loop-time
-invariant-loop-time l = GivenTo l.net l.stim l.cursor.line l.values
+abbrev pub invariant-loop-line : goal.invariant-loop-line
+invariant-loop-line l = GivenTo l.net l.stim l.cursor.line l.values
 
-abbrev pub decreases-loop-time : goal.decreases-loop-time
-decreases-loop-time l = stim_count l.stim - l.cursor.line
+abbrev pub decreases-loop-line : goal.decreases-loop-line
+decreases-loop-line l = stim_count l.stim - l.cursor.line

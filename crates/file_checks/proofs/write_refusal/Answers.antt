@@ -1,16 +1,16 @@
 -- `write_refusal` writes the line of two fields, or nothing.
 use mathlib.Core.Path.{refl, ◌∙◌, sym}
-use Rattle.file_checks.specs.Refused.{refused_text}
 use Rattle.model.specs.Listing.{refusal_line}
 use Rattle.writing.proofs.Writing.{length_line}
+use Rattle.file_checks.specs.Refused.{refused_text}
 use Rattle.file_checks.proofs.write_refusal.Goals as goal
 
 pub returns : goal.returns
 unfolding refused_text refusal_line
 returns c =
-    rw c.in-Refused.is (record { value = c.write_line.ensures.value ∙ sym (length_line _); out_after = c.write_line.ensures.out_after })
+    rw (c.in-Err.is, c.told-number.ensures)
+    (record { value = c.write_line.ensures.value ∙ sym (length_line _); out_after = rw (← c.from.ensures) c.write_line.ensures.out_after })
 
 pub returns-in_default : goal.returns-in_default
 unfolding refused_text
-returns-in_default c =
-    rw c.in_default.is (record { value = refl; out_after = refl })
+returns-in_default c = rw c.in_default.is (record { value = refl; out_after = refl })

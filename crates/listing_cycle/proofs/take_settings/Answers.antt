@@ -2,37 +2,38 @@
 use mathlib.Core.Path.{refl, sym, ◌∙◌}
 use mathlib.Core.List.{[]}
 use native.Mathlib.Omega.{arith}
-use Rattle.file_stim.proofs.Steps.{line_right, given_at, end_at}
+use Rattle.file_stim.proofs.Steps.{GivenAt, line_right, given_at, none_at}
 use Rattle.listing_cycle.proofs.Feeding.{set_keeps, fed_starts, fed_size, fed_signals, fed_more}
 use Rattle.listing_cycle.proofs.take_settings.Goals as goal
+use Rattle.listing_cycle.proofs.take_settings.Goals.{In-Some}
 
-pub loop-at-init : goal.loop-at-init
-loop-at-init c = (fed_starts _ _ _ _ c.requires.panel_len.0 c.requires.line_bound, (refl, refl))
+-- a line of the time
+gives : (c : In-Some) → GivenAt c.args.stim.now c.args.time.0 c.loop-line.cursor.line c.in-Some.line c.in-Some.next
+gives c = given_at _ _ c.requires.stimulus.passes _ _ c.loop-line.invariant.fed.few _ _ (sym c.next_of.ensures ∙ c.in-Some.is)
 
-pub next-requires : goal.next-requires
-next-requires c = line_right _ _ c.requires.stimulus.passes _ c.loop-at.invariant.0.few
+pub loop-line-init : goal.loop-line-init
+loop-line-init c = record { fed = fed_starts _ _ _ _ c.requires.panel_len.0 c.requires.line_bound; same_numbers = (refl, refl) }
 
-pub returns-in_default-clause-fact : goal.returns-in_default-clause-fact
-returns-in_default-clause-fact c =
-    let e = end_at _ _ c.requires.stimulus.passes _ c.loop-at.invariant.0.few _ (sym c.next.ensures ∙ c.in_default.is) in
-    λ h q. omega (arith, e.0)
+pub next_of-requires : goal.next_of-requires
+next_of-requires c = line_right _ _ c.requires.stimulus.passes _ c.loop-line.invariant.fed.few
 
-pub returns-then-at-time-clause-fact : goal.returns-then-at-time-clause-fact
-returns-then-at-time-clause-fact c =
-    let g = given_at _ _ c.requires.stimulus.passes _ c.loop-at.invariant.0.few _ _ _ _ (sym c.next.ensures ∙ c.in-Given.is) in
-    λ h q. c.if-at-time.true (g.time_is ∙ q)
+pub returns-clause-fact : goal.returns-clause-fact
+returns-clause-fact c =
+    none_at _ _ c.requires.stimulus.passes _ _ c.loop-line.invariant.fed.few (sym c.next_of.ensures ∙ c.in_default.is)
 
 pub set-told-requires : goal.set-told-requires
-set-told-requires c = (fed_size c.loop-at.invariant.0, fed_signals c.loop-at.invariant.0 c.requires.panel_len.1)
+set-told-requires c = (fed_size c.loop-line.invariant.fed, fed_signals c.loop-line.invariant.fed c.requires.panel_len.1)
 
-pub loop-at-smaller : goal.loop-at-smaller
-loop-at-smaller c =
-    let g = given_at _ _ c.requires.stimulus.passes _ c.loop-at.invariant.0.few _ _ _ _ (sym c.next.ensures ∙ c.in-Given.is) in
-    omega (arith, g.before_end, g.follows)
+pub loop-line-smaller : goal.loop-line-smaller
+loop-line-smaller c = let g = gives (goal.at.loop-line-smaller c).In-Some in omega (arith, g.before_end, g.follows)
 
-pub loop-at-preserved : goal.loop-at-preserved
-loop-at-preserved c =
-    let g = given_at _ _ c.requires.stimulus.passes _ c.loop-at.invariant.0.few _ _ _ _ (sym c.next.ensures ∙ c.in-Given.is) in
+pub loop-line-preserved : goal.loop-line-preserved
+loop-line-preserved c =
     let told = c.set-told.ensures [] [] in
+    let hand = rw (c.from.ensures, c.from-in-Some.ensures) at told.hand in
     let kept = set_keeps _ _ _ _ in
-    (fed_more c.loop-at.invariant.0 g c.if-at-time.false c.requires.panel_len.1 _ _ _ told.hand, (told.finished ∙ kept.0 ∙ c.loop-at.invariant.1.0, told.watch ∙ kept.1 ∙ c.loop-at.invariant.1.1))
+    let numbers = c.loop-line.invariant.same_numbers in
+    record {
+      fed = fed_more c.loop-line.invariant.fed (gives (goal.at.loop-line-preserved c).In-Some) c.requires.panel_len.1 _ _ _ hand;
+      same_numbers = (told.finished ∙ kept.0 ∙ numbers.0, told.watch ∙ kept.1 ∙ numbers.1);
+    }
