@@ -3,6 +3,7 @@
 use Rattle.std.specs.Prelude.{ℕ, ◌+◌, ◌*◌, ◌/◌, ◌%◌, List, [], ◌∷◌, get_or}
 use Rattle.model.specs.Module.{Module}
 use Rattle.instruction.specs.Operand.{operand_of}
+use Rattle.instruction.specs.Sender.{sender_numbered}
 use Rattle.instruction.specs.declared.Instruction.{Instruction}
 use Rattle.words.specs.Word.{word}
 
@@ -84,7 +85,7 @@ instruction_in program p i =
       a3 = operand_of (part_at program p i 2) (location_at program p i 2);
       a4 = operand_of (part_at program p i 3) (location_at program p i 3);
       send = operand_of (send_part_at program p i) (send_location_at program p i);
-      sender = sender_at program p i;
+      sender = sender_numbered (sender_at program p i);
     }
 
 -- the bytes of a line in their order: its signal, the pairs of its operands and of its send, the processor received from

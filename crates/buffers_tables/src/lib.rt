@@ -218,6 +218,6 @@ pub fn instruction_in(program: &Program, processor: usize, slot: Slot) -> Instru
         a3: named_in(program, at + OPERAND3),
         a4: named_in(program, at + OPERAND4),
         send: named_in(program, at + SEND),
-        sender: program[at + SENDER],
+        sender: instruction::sender_numbered(program[at + SENDER]),
     }
 }

@@ -2,6 +2,7 @@
 use Rattle.std.specs.Prelude.{ℕ}
 use Rattle.model.specs.Module.{Module}
 use Rattle.instruction.specs.Operand.{operand_of}
+use Rattle.instruction.specs.Sender.{sender_numbered}
 use Rattle.instruction.specs.declared.Operand.{Operand}
 use Rattle.instruction.specs.declared.Instruction.{Instruction}
 
@@ -21,5 +22,5 @@ instruction_of m p i =
       a3 = operand_named m p i 2;
       a4 = operand_named m p i 3;
       send = send_named m p i;
-      sender = m.sender p i;
+      sender = sender_numbered (m.sender p i);
     }

@@ -4,7 +4,7 @@
 
 ghost use Rattle.std.specs.Prelude.{◌≡◌};
 ghost use Rattle.instruction.specs.Operand.{operand_of};
-ghost use Rattle.instruction.specs.Sender.{sender_laid};
+ghost use Rattle.instruction.specs.Sender.{sender_laid, sender_numbered};
 
 // What a pair of a table line names: a location of one of the four parts, in the order of their numbers, or none. None keeps the
 // pair's location, so that the location of an operand is read without asking which one it is.
@@ -18,7 +18,7 @@ pub enum Operand {
 }
 
 // A table line as it is executed: its signal (0: empty slot), what its operands and its send name, and the processor that it receives
-// from (99: none).
+// from, if any.
 #[derive(Clone, Copy)]
 pub struct Instruction {
     pub signal: u16,
@@ -27,7 +27,7 @@ pub struct Instruction {
     pub a3: Operand,
     pub a4: Operand,
     pub send: Operand,
-    pub sender: u8,
+    pub sender: Option<u8>,
 }
 
 // The operand that a pair names. A part that has no location, as 9, names none.
@@ -42,6 +42,13 @@ pub fn operand_of(part: u16, location: u8) -> Operand
         3 => Operand::SwitchPresent(location),
         _ => Operand::None(location),
     }
+}
+
+// The processor that a line receives from, by its number ("99: none").
+pub fn sender_numbered(number: u8) -> Option<u8>
+    ensures { result ≡ sender_numbered number }
+{
+    if number == 99 { None } else { Some(number) }
 }
 
 // "processors below P", or none.

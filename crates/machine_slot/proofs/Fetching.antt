@@ -4,7 +4,12 @@ use mathlib.Core.Path.{◌≡◌, refl}
 use mathlib.Core.List.{List}
 use mathlib.Core.Logic.{◌⊎◌, inl, inr}
 use native.Mathlib.Omega.{arith}
-use borrow.Author.Tests.{ne_eqb}
+use lib.Dec.{eqb}
+use mathlib.Core.Bool.{Bool, true, false}
+use borrow.Author.Tests.{eq-eqb, ne_eqb}
+use Rattle.std.specs.Prelude.{IfSome, Some, None}
+use Rattle.std.specs.Prelude.{if◌then◌else◌}
+use Rattle.instruction.specs.Sender.{sender_numbered}
 use Rattle.gates.specs.Legal.{Legal}
 use Rattle.model.specs.Module.{At, no_sender}
 use Rattle.model.specs.Machine.{Memory, fetch, operand, result, sent}
@@ -62,10 +67,15 @@ module _ {panel program : List ℕ} (tables : Tables panel program) {p i : ℕ} 
   unfolding network_in module_in
   line_codes some = tables.codes _ (omega (arith, some)) (tables.laid.signals p i here)
 
-  pub sender_fits : (sender_at program p i ≡ no_sender → ⊥) → sender_at program p i < 16
+  pub sender_fits : IfSome (sender_numbered (sender_at program p i)) (λ q. q < 16)
   unfolding network_in module_in
-  sender_fits some = go (tables.laid.senders p i here)
+  sender_fits = go (tables.laid.senders p i here)
     where
-      go : (sender_at program p i < processors_in panel) ⊎ (sender_at program p i ≡ no_sender) → sender_at program p i < 16
-      go (inl below) = omega (arith, tables.processors_high)
-      go (inr e) = absurd (some e)
+      below : (none : Bool) → sender_at program p i < processors_in panel → IfSome (if none then None else Some (sender_at program p i)) (λ q. q < 16)
+      below true low = tt
+      below false low = omega (arith, tables.processors_high)
+
+      go : (sender_at program p i < processors_in panel) ⊎ (sender_at program p i ≡ no_sender)
+          → IfSome (sender_numbered (sender_at program p i)) (λ q. q < 16)
+      go (inl low) = below (eqb (sender_at program p i) no_sender) low
+      go (inr e) = rw (eq-eqb (sender_at program p i) no_sender e) tt

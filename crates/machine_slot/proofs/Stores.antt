@@ -7,12 +7,21 @@ use native.Mathlib.Omega.{arith}
 use lib.Dec.{eqb}
 use lib.ListN.{length, get_or, set}
 use lib.Seq.{get_or-set_same, get_or-set_other}
-use borrow.Author.Tests.{eq-eqb, eqb-true, eqb-false}
-use Rattle.machine_slot.specs.Storing.{stored_if, FirstAre}
+use borrow.Author.Tests.{eqb-true, eqb-false}
+use Rattle.std.specs.Prelude.{Some, None}
+use Rattle.std.specs.Prelude.{if◌then◌else◌}
+use Rattle.model.specs.Module.{no_sender}
+use Rattle.instruction.specs.Sender.{sender_numbered}
+use Rattle.machine_slot.specs.Storing.{stored_if, received_stored, FirstAre}
 
--- not stored where x is the number that says none
-pub store_none : (x none : ℕ) (l : List ℕ) (place v : ℕ) → x ≡ none → l ≡ stored_if (not (eqb x none)) l place v
-store_none x none l place v e = rw (eq-eqb x none e)
+-- the value received, by the number of the processor
+pub received_numbered : (x : ℕ) (sents l : List ℕ) (place : ℕ)
+    → received_stored (sender_numbered x) sents l place ≡ stored_if (not (eqb x no_sender)) l place (get_or sents x 0)
+received_numbered x sents l place = go (eqb x no_sender)
+  where
+    go : (b : Bool) → received_stored (if b then None else Some x) sents l place ≡ stored_if (not b) l place (get_or sents x 0)
+    go true = refl
+    go false = refl
 
 -- one more element
 pub first_more : (f : ℕ → ℕ) (l : List ℕ) (p v : ℕ) → p < length l → FirstAre p f l → v ≡ f p → FirstAre (p + 1) f (set l p v)

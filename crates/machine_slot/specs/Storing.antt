@@ -1,5 +1,5 @@
 -- How a slot fetches and stores: these mirror private functions, and the model's `slot` is what a caller reads.
-use Rattle.std.specs.Prelude.{ℕ, ◌<◌, ◌≡◌, Bool, not, List, eqb, ltb, get_or, set}
+use Rattle.std.specs.Prelude.{ℕ, ◌<◌, ◌≡◌, Bool, not, List, Option, Some, None, eqb, ltb, get_or, set}
 use Rattle.logic.specs.Test.{◌and◌}
 use Rattle.std.specs.Prelude.{if◌then◌else◌}
 use Rattle.gates.specs.Gate.{gate}
@@ -46,6 +46,11 @@ storing m i results sent w =
 -- a byte stored or not
 abbrev pub stored_if : Bool → List ℕ → ℕ → ℕ → List ℕ
 stored_if stores l at v = if stores then set l at v else l
+
+-- the value received, stored or not
+abbrev pub received_stored : Option ℕ → List ℕ → List ℕ → ℕ → List ℕ
+received_stored None sents l at = l
+received_stored (Some sender) sents l at = set l at (get_or sents sender 0)
 
 -- location i of the processors below p
 unfoldable pub passed : ℕ → ℕ → ℕ → ℕ → Bool

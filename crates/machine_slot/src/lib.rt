@@ -2,16 +2,16 @@
 
 #![tactic(auto)]
 
-ghost use Rattle.std.specs.Prelude.{◌≡◌, ◌<◌, ◌≤◌, not, eqb, length, get_or};
+ghost use Rattle.std.specs.Prelude.{◌≡◌, ◌<◌, ◌≤◌, not, eqb, length, IfSome};
 ghost use Rattle.gates.specs.Legal.{Legal};
-ghost use Rattle.model.specs.Module.{local_present, switch_present, no_sender};
+ghost use Rattle.model.specs.Module.{local_present, switch_present};
 ghost use Rattle.model.specs.Machine.{sent as sent_by, slot as slot_done};
 ghost use Rattle.buffers_memory.specs.Memory.{memory_length, memory_of, place, with_memory, written, here, MemoryBytes};
 ghost use Rattle.buffers_tables.specs.Panel.{processors_in, slots_in, codes_in};
 ghost use Rattle.buffers_tables.specs.Program.{instruction_in};
 ghost use Rattle.buffers_tables.specs.Tables.{Tables};
 ghost use Rattle.machine_slot.specs.Single.{tables_single};
-ghost use Rattle.machine_slot.specs.Storing.{gate_on, evaluated_on, evaluated, FirstAre, storing, stored_if, passed};
+ghost use Rattle.machine_slot.specs.Storing.{gate_on, evaluated_on, evaluated, FirstAre, storing, stored_if, received_stored, passed};
 
 use buffers_memory::{LOCAL_PRESENT, Memory, SWITCH_PRESENT};
 use buffers_tables::{Panel, Program};
@@ -152,12 +152,18 @@ fn store_result(signal: u16, processor: usize, slot: Slot, value: u8, memory: &m
 }
 
 // "the received value goes to switch location i", in the present half; "a slot that receives none stores no switch value".
-fn store_received(sender: u8, processor: usize, slot: Slot, sent: &[u8; 16], memory: &mut Memory)
+fn store_received(
+    sender: Option<u8>,
+    processor: usize,
+    slot: Slot,
+    sent: &[u8; 16],
+    memory: &mut Memory,
+)
     requires memory_size { (processor < 16) × (slot.0 < 256) }
-    requires sender_in_bounds { (sender ≡ no_sender → ⊥) → sender < 16 }
-    ensures { memory.new ≡ stored_if (not (eqb sender no_sender)) memory.old (place processor switch_present slot.0) (get_or sent.now sender 0) }
+    requires sender_bound { IfSome sender (λ q. q < 16) }
+    ensures { memory.new ≡ received_stored sender sent.now memory.old (place processor switch_present slot.0) }
 {
-    if sender != 99 {
+    if let Some(sender) = sender {
         buffers_memory::store(
             memory,
             processor,
