@@ -31,9 +31,10 @@ pub fn load(
     ensures program_after { program.new ≡ program_of (files_of net.now modfile.now stim.now) }
     ensures memory_after { memory.new ≡ opening_bytes (files_of net.now modfile.now stim.now) }
 {
-    let mut values = [0u8; 4097];
+    let table = buffers_load_files::table_of(modfile);
+    let mut values = [0; 4097];
     buffers_load_values::load_values(net, stim, &mut values);
-    buffers_load_panel::load_panel(net, modfile, &values, panel);
-    buffers_load_program::load_program(modfile, program);
-    buffers_load_memory::load_memory(modfile, &values, memory);
+    buffers_load_panel::load_panel(net, &table, &values, panel);
+    buffers_load_program::load_program(&table, program);
+    buffers_load_memory::load_memory(&table, &values, memory);
 }

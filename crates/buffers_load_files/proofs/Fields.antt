@@ -16,6 +16,7 @@ use Rattle.model.proofs.Refusals.{first_left, first_right}
 use Rattle.model.proofs.RightLine.{line_field}
 use Rattle.file_mod_lines.proofs.Accepted.{header_sized}
 use Rattle.file_mod_table.specs.Line.{LinesLaid}
+use Rattle.file_mod_table.proofs.Widest.{lines_widened}
 use Rattle.buffers_load_files.specs.Checked.{ModuleChecked}
 
 -- a MOD that is accepted with a checked NET
@@ -49,7 +50,5 @@ module _ {modfile : List ℕ} (s : ModuleChecked modfile) where
   lines_laid p c processors slots =
       record {
         sized = header_sized modfile p c (first_left _ _ s.passes) processors slots;
-        network = s.network;
-        few = s.few;
-        lines = first_left _ _ (first_right _ _ s.passes);
+        lines = lines_widened s.network s.few modfile (first_left _ _ (first_right _ _ s.passes));
       }

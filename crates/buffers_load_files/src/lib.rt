@@ -1,31 +1,43 @@
 // What loading reads of the first lines of the accepted files: N, P and C. Every byte that loading writes is defined here (specs/Loaded),
-// for the crates that write them.
+// for the crates that write them, and so is how a buffer is filled.
 
 #![tactic(auto)]
 
-ghost use Rattle.std.specs.Prelude.{◌≡◌, ◌≤◌};
+ghost use Rattle.std.specs.Prelude.{◌≡◌, ℕ, ◌<◌, ◌≤◌, length};
+ghost use Rattle.logic.specs.Listed.{listed};
 ghost use Rattle.model.specs.Netlist.{net_size};
 ghost use Rattle.model.specs.Checked.{Checked};
-ghost use Rattle.file_mod_table.specs.Line.{LinesLaid};
 ghost use Rattle.buffers_load_files.specs.Checked.{ModuleChecked};
 
 use file_mod_lines::Shape;
+use file_mod_table::ModTable;
 
 // N, from line 1 of NET.
 pub fn signals_of(net: &[u8]) -> usize
     requires { Checked net.now }
     ensures { (result ≡ net_size net.now) × (1 ≤ result) × (result ≤ 4096) }
 {
-    fields::number_at(net, 6) as usize
+    usize::from(fields::number_at(net, 6))
 }
 
-// P and C, from line 1 of MOD. The lines after it may be read with them.
-pub fn shape_of(modfile: &[u8]) -> Shape
+// MOD with P and C, from its line 1. The lines after it may be read.
+pub fn table_of(modfile: &[u8]) -> ModTable
     requires { ModuleChecked modfile.now }
-    ensures { LinesLaid modfile.now result.processors result.slots }
+    ensures { result.modfile.now ≡ modfile.now }
 {
-    Shape {
+    let shape = Shape {
         processors: fields::number_at(modfile, 0),
         slots: fields::number_at(modfile, 6),
+    };
+    ModTable::new(modfile, shape)
+}
+
+// Every byte of a buffer, by a function of its index.
+pub fn fill_by<F: Fn(usize) -> u8>(bytes: &mut [u8], byte: F)
+    requires { (a : ℕ) → a < length bytes.old → F.pre byte a }
+    ensures { (f : ℕ → ℕ) → ((a x : ℕ) → a < length bytes.old → F.post byte a x → x ≡ f a) → bytes.new ≡ listed (length bytes.old) f }
+{
+    for a in 0..bytes.len() {
+        bytes[a] = byte(a);
     }
 }

@@ -1,8 +1,9 @@
 -- The bytes of the opening memory, by an array of time 0 values, and that the array's values are the signals'.
 use Prim.Native.Nat.{ℕ, zero, suc, ◌<◌, ◌≤◌}
 use mathlib.Core.Path.{◌≡◌, refl, sym, ap, ◌∙◌}
-use mathlib.Core.Bool.{true, false, not}
+use mathlib.Core.Bool.{Bool, true, false, not}
 use mathlib.Core.List.{List}
+use mathlib.Core.Logic.{◌⊎◌, ⊎_elim}
 use native.Mathlib.Omega.{arith}
 use native.Mathlib.Decide.{ℕ_discrete}
 use lib.Dec.{eqb}
@@ -15,9 +16,7 @@ use Rattle.model.specs.Value.{value_of}
 use Rattle.model.specs.Module.{Module, no_sender}
 use Rattle.model.specs.Machine.{opening, fetch}
 use Rattle.model.specs.ModuleFile.{mod_processors, mod_slots, module_of}
-use Rattle.file_mod_lines.specs.Answer.{Sized}
 use Rattle.buffers_memory.specs.Memory.{memory_length, blank, place, byte_processor, byte_part, byte_location, within}
-use Rattle.buffers_memory.proofs.Within.{is_within, no_processor, no_location}
 use Rattle.buffers_memory.proofs.Written.{Place, place_low, byte_place, written_here, written_else, written_blank}
 use Rattle.buffers_load_files.specs.Checked.{value_in}
 use Rattle.buffers_load_memory.specs.Bytes.{sent_value, opening_byte}
@@ -80,32 +79,28 @@ module _ (modfile : List ℕ) (zeroth : ℕ → ℕ) {p part k : ℕ} (there : P
             let l : blank ≤ part = omega arith in
             written_blank _ _ _ p part k l ∙ blank_byte
 
--- byte a of the memory as the code tells it, by its tests of the processor, the location and the part
-module _ (modfile : List ℕ) (zeroth : ℕ → ℕ) {P C a : ℕ} (sized : Sized modfile P C) (low : a < memory_length) where
+-- byte a of the memory as the code tells it, by its tests of the place and of the part
+module _ (modfile : List ℕ) (zeroth : ℕ → ℕ) {a : ℕ} (low : a < memory_length) where
   abbrev Told : ℕ → Type 0
   Told byte = byte ≡ opening_byte modfile zeroth (byte_processor a) (byte_part a) (byte_location a)
 
   there : Place (byte_processor a) (byte_part a) (byte_location a)
   there = byte_place a low
 
-  pub told_no_processor : P ≤ byte_processor a → Told 0
-  told_no_processor h = sym (byte_outside modfile zeroth there (no_processor (mod_processors modfile) (mod_slots modfile) (byte_processor a) (byte_location a) (omega (arith, sized.processors))))
+  abbrev has : Bool
+  has = within (mod_processors modfile) (mod_slots modfile) (byte_processor a) (byte_location a)
 
-  pub told_no_location : C ≤ byte_location a → Told 0
-  told_no_location h = sym (byte_outside modfile zeroth there (no_location (mod_processors modfile) (mod_slots modfile) (byte_processor a) (byte_location a) (omega (arith, sized.slots))))
+  pub told_outside : has ≡ false → Told 0
+  told_outside e = sym (byte_outside modfile zeroth there e)
 
-  module _ (p : byte_processor a < P) (k : byte_location a < C) where
-    inside : within (mod_processors modfile) (mod_slots modfile) (byte_processor a) (byte_location a) ≡ true
-    inside = is_within (mod_processors modfile) (mod_slots modfile) (byte_processor a) (byte_location a) (omega (arith, sized.processors)) (omega (arith, sized.slots))
-
+  module _ (inside : has ≡ true) where
     pub told_local : byte_part a ≡ 0 → (byte : ℕ) → byte ≡ value_of zeroth ((module_of modfile).signal (byte_processor a) (byte_location a)) → Told byte
     told_local e byte is = is ∙ sym (byte_local modfile zeroth there inside e)
 
-    pub told_sent_earlier : byte_part a ≡ 2 → (byte : ℕ) → byte ≡ sent_value (module_of modfile) zeroth (byte_processor a) (byte_location a) → Told byte
-    told_sent_earlier e byte is = is ∙ sym (byte_sent_earlier modfile zeroth there inside e)
-
-    pub told_sent_present : byte_part a ≡ 3 → (byte : ℕ) → byte ≡ sent_value (module_of modfile) zeroth (byte_processor a) (byte_location a) → Told byte
-    told_sent_present e byte is = is ∙ sym (byte_sent_present modfile zeroth there inside e)
+    pub told_sent : (byte_part a ≡ 2) ⊎ ((byte_part a ≡ 2 → ⊥) × (byte_part a ≡ 3)) → (byte : ℕ) → byte ≡ sent_value (module_of modfile) zeroth (byte_processor a) (byte_location a)
+        → Told byte
+    told_sent e byte is =
+        is ∙ sym (⊎_elim (byte_sent_earlier modfile zeroth there inside) (λ e. byte_sent_present modfile zeroth there inside e.1) e)
 
     pub told_other : (byte_part a ≡ 0 → ⊥) → (byte_part a ≡ 2 → ⊥) → (byte_part a ≡ 3 → ⊥) → Told 0
     told_other x y z = sym (byte_other modfile zeroth there inside x y z)

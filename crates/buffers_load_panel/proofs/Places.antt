@@ -13,10 +13,11 @@ use lib.Seq.{get_or-set_same, get_or-set_other}
 use borrow.Author.Tests.{eq-eqb, ne_eqb, eqb-true, eqb-false}
 use Rattle.std.specs.Prelude.{if◌then◌else◌}
 use Rattle.logic.specs.Listed.{listed}
-use Rattle.logic.proofs.Listed.{listed_length, listed_at, is_listed}
+use Rattle.logic.proofs.Listed.{listed_at, is_listed}
 use Rattle.model.specs.Module.{Module, At}
 use Rattle.model.specs.ModuleFile.{mod_field, mod_index, mod_processors, mod_slots, module_of}
 use Rattle.model.proofs.Conditions.{Placed}
+use Rattle.file_mod_lines.specs.Answer.{Sized}
 use Rattle.file_mod_lines.proofs.Lines.{line_index}
 use Rattle.buffers_load_files.specs.Loaded.{place_below, place_of}
 use Rattle.buffers_load_files.specs.Checked.{ModuleChecked}
@@ -112,16 +113,18 @@ places_end modfile places k so_far h =
     (λ s b. so_far.lines s (omega arith) ∙ ap (place_below (module_of modfile) s) e)
 
 -- the array, as the panel is filled by it
-pub placed_lines : {modfile : List ℕ} (s : ModuleChecked modfile) (slots : ℕ) (places : List ℕ) → slots ≡ mod_slots modfile
-    → places ≡ listed 4097 (place_of modfile) → LineNumbers slots places
+pub placed_lines : {modfile : List ℕ} {p c : ℕ} (sized : Sized modfile p c) (places : List ℕ) → places ≡ listed 4097 (place_of modfile) → LineNumbers c places
 unfolding place_of
-placed_lines {modfile} s slots places q e =
+placed_lines {modfile} sized places e =
+    let P = mod_processors modfile in
+    let C = mod_slots modfile in
+    let some : 1 ≤ P * C = mul-le-mul {n₁ = 1} {m₁ = 1} {n₂ = P} {m₂ = C} (omega (arith, sized.processors, sized.processors_low)) (omega (arith, sized.slots, sized.slots_low)) in
+    let few : P ≤ 16 = omega (arith, sized.processors, sized.processors_high) in
+    let most = mul-le-mul_right C few in
     record {
-      size = rw e (listed_length 4097 _);
       few = λ x b.
-          let line = place_below_lem (module_of modfile) x (mod_processors modfile * mod_slots modfile) (some_lines s) in
-          let most = mul-le-mul_right (mod_slots modfile) (processors_range s).1 in
-          rw (e, q, listed_at 4097 (place_of modfile) x (omega arith)) (omega arith);
+          let line = place_below_lem (module_of modfile) x (P * C) some in
+          rw (e, sized.slots, listed_at 4097 (place_of modfile) x (omega arith)) (omega arith);
     }
 
 -- the line of a signal is one of the module, and has it

@@ -2,7 +2,8 @@
 
 #![tactic(auto)]
 
-ghost use Rattle.std.specs.Prelude.{◌≡◌, true, ◌+◌, ◌*◌, ◌/◌, ◌%◌, ◌<◌, ◌≤◌};
+ghost use Rattle.std.specs.Prelude.{◌≡◌, true, ◌+◌, ◌*◌, ◌/◌, ◌%◌, ◌<◌, ◌≤◌, ltb};
+ghost use Rattle.logic.specs.Test.{◌and◌};
 ghost use Rattle.fields.specs.Line.{is_line_at};
 ghost use Rattle.model.specs.Network.{Network};
 ghost use Rattle.model.specs.ModuleFile.{mod_header, mod_slot, each_line, mod_surplus};
@@ -63,6 +64,14 @@ impl Shape {
         ensures { (result ≡ self.processors * self.slots) × (result ≤ 4096) }
     {
         usize::from(self.processors) * usize::from(self.slots)
+    }
+
+    // The module has the processor and the slot.
+    #[tactic(auto, using(logic::proofs::Judged::connected))]
+    pub fn has(self, place: Place) -> bool
+        ensures { result ≡ ltb place.processor self.processors and ltb place.slot.0 self.slots }
+    {
+        place.processor < self.processors && place.slot.0 < self.slots
     }
 
     // "by processor (0 to P-1), within it by slot (0 to C-1)": the place of the line k after the first.

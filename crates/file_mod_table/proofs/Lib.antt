@@ -1,3 +1,4 @@
 pub mod Slots
 pub mod Numbered
 pub mod Widest
+pub mod Senders

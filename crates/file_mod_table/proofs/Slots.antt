@@ -5,7 +5,10 @@ use mathlib.Core.Bool.{true}
 use mathlib.Core.List.{List}
 use mathlib.Core.Logic.{⊎_elim}
 use native.Mathlib.Omega.{arith}
-use borrow.Author.Tests.{eq-eqb, ne_eqb}
+use borrow.Author.Tests.{eq-eqb, ne_eqb, ltb-true}
+use lib.Dec.{ltb}
+use Rattle.logic.specs.Test.{◌and◌}
+use Rattle.logic.proofs.Tests.{and_left, and_right}
 use native.Mathlib.Decide.{ℕ_discrete}
 use Rattle.fields.specs.Field.{number_at}
 use Rattle.fields.specs.Line.{is_line_at}
@@ -24,6 +27,11 @@ line_of l p c q i laid low-q low-i =
 
 pub line_within : {l : List ℕ} {shape : Shape} {q i : ℕ} → LinesLaid l shape.processors shape.slots → Within shape q i → LineOf l shape.slots q i
 line_within laid within = line_of _ _ _ _ _ laid within.processor within.slot
+
+-- what the code tests of a place
+pub tested_within : (shape : Shape) (q i : ℕ) → ltb q shape.processors and ltb i shape.slots ≡ true → Within shape q i
+tested_within shape q i e =
+    record { processor = ltb-true _ _ (and_left _ _ e); slot = ltb-true _ _ (and_right _ _ e) }
 
 pub laid_slot : (l : List ℕ) (p c q i : ℕ) (laid : LinesLaid l p c) → q < p → i < c → SlotRight widest l q i
 unfolding module_of

@@ -1,19 +1,26 @@
--- `load_panel`: the array of lines is `place_of`, and so the panel filled by it is the panel.
+-- The array of lines is `place_of`, and so the panel filled by it is the panel.
+use Prim.Native.Nat.{◌<◌}
 use native.Mathlib.Omega.{arith}
 use lib.ListN.{get_or-replicate}
+use borrow.Author.Rules.{rules}
+use Rattle.buffers_tables.specs.Panel.{panel_length, signal_of, column_of}
+use Rattle.buffers_load_files.specs.Loaded.{panel_byte}
+use Rattle.buffers_load_files.specs.Checked.{value_in}
+use Rattle.buffers_load_panel.specs.Lines.{LineNumbers}
 use Rattle.buffers_load_panel.proofs.Places.{placed_lines}
 use Rattle.buffers_load_panel.proofs.Panel.{panel_placed}
-use borrow.Author.Rules.{rules}
 use Rattle.buffers_load_panel.proofs.load_panel.Goals as goal
 
-pub load_places-requires-clause-places_len : goal.load_places-requires-clause-places_len
-load_places-requires-clause-places_len c = (search rules, λ s h. get_or-replicate 4097 s 0 0 (omega arith))
+pub load_places-requires : goal.load_places-requires
+load_places-requires c = λ s h. get_or-replicate 4097 s 0 0 (omega arith)
 
-pub fill_panel-requires-clause-values_len : goal.fill_panel-requires-clause-values_len
-fill_panel-requires-clause-values_len c =
-    let lines = placed_lines c.requires.module_checked _ _ c.shape_of-shape.ensures.sized.slots c.load_places.ensures in
-    (c.requires.values_len.0, lines)
+pub fill_by-requires : goal.fill_by-requires
+fill_by-requires c =
+    let lines : LineNumbers c.args.table.now.shape.slots c.load_places.new.places = placed_lines c.args.table.now.laid.sized _ c.load_places.ensures in
+    λ a low. let within : a < panel_length = omega (arith, c.requires.panel_len) in search rules
 
 pub returns : goal.returns
 returns c =
-    panel_placed c.args.net.now c.args.modfile.now c.requires.checked _ _ _ _ c.shape_of-shape.ensures.sized.processors c.shape_of-shape.ensures.sized.slots c.load_places.ensures _ c.fill_panel.ensures
+    let sized = c.args.table.now.laid.sized in
+    panel_placed c.args.net.now c.args.table.now.modfile.now c.requires.checked _ _ _ _ sized.processors sized.slots c.load_places.ensures _
+    (rw c.requires.panel_len at (c.fill_by.ensures (λ a. panel_byte c.args.net.now c.args.table.now.shape.processors c.args.table.now.shape.slots (value_in c.load_places.new.places) (value_in c.args.values.now) (signal_of a) (column_of a)) (λ a x low q. search rules)))

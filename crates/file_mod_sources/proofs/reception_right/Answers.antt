@@ -1,6 +1,7 @@
 -- What the processor that it receives from sends decides, if there is one.
 use mathlib.Core.Path.{sym, ◌∙◌}
-use Rattle.file_mod_sources.proofs.Senders.{sender_is, no_sender_is, reception_none, reception_some}
+use Rattle.file_mod_table.proofs.Senders.{sender_is, no_sender_is}
+use Rattle.file_mod_sources.proofs.Senders.{reception_none, reception_some}
 use Rattle.file_mod_sources.proofs.reception_right.Goals as goal
 
 pub returns-in_default : goal.returns-in_default

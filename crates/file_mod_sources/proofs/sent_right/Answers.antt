@@ -4,7 +4,8 @@ use native.Mathlib.Omega.{arith}
 use Rattle.std.proofs.lemmas.Grind.{common_steps}
 use Rattle.logic.proofs.Judged.{connected}
 use Rattle.model.specs.ModuleFile.{module_of}
-use Rattle.file_mod_sources.proofs.Senders.{sender_is, no_sender_is, sent_none, sent_some}
+use Rattle.file_mod_table.proofs.Senders.{sender_is, no_sender_is}
+use Rattle.file_mod_sources.proofs.Senders.{sent_none, sent_some}
 use Rattle.file_mod_sources.proofs.sent_right.Goals as goal
 
 pub returns-in_default : goal.returns-in_default

@@ -1,0 +1,29 @@
+-- `byte`: 0 outside the module, and inside it each part by itself. Each answer tells the byte by the tests passed.
+use mathlib.Core.Path.{sym, ◌∙◌}
+use Rattle.file_mod_table.proofs.Slots.{tested_within}
+use Rattle.buffers_load_files.specs.Checked.{value_in}
+use Rattle.buffers_load_files.proofs.Has.{has_place}
+use Rattle.buffers_load_memory.proofs.Memory.{told_outside, told_local, told_sent, told_other}
+use Rattle.buffers_load_memory.proofs.Opening.byte.Goals as goal
+
+pub returns-then-not-has : goal.returns-then-not-has
+returns-then-not-has c =
+    told_outside _ (value_in c.args.self.now.values.now) c.requires (has_place c.args.self.now.table.now.laid.sized _ _ c.has.ensures ∙ c.if-not-has.true)
+
+pub local_value-requires : goal.local_value-requires
+local_value-requires c = tested_within _ _ _ (sym c.has.ensures ∙ c.if-not-has.false)
+
+pub sent_value-requires : goal.sent_value-requires
+sent_value-requires c = tested_within _ _ _ (sym c.has.ensures ∙ c.if-not-has.false)
+
+pub returns-then-part-eq0 : goal.returns-then-part-eq0
+returns-then-part-eq0 c =
+    told_local _ (value_in c.args.self.now.values.now) c.requires (has_place c.args.self.now.table.now.laid.sized _ _ c.has.ensures ∙ c.if-not-has.false) c.if-part-eq0.true _ c.local_value.ensures
+
+pub returns-then-part-eq2 : goal.returns-then-part-eq2
+returns-then-part-eq2 c =
+    told_sent _ (value_in c.args.self.now.values.now) c.requires (has_place c.args.self.now.table.now.laid.sized _ _ c.has.ensures ∙ c.if-not-has.false) c.then-part-eq2.either _ c.sent_value.ensures
+
+pub returns : goal.returns
+returns c =
+    told_other _ (value_in c.args.self.now.values.now) c.requires (has_place c.args.self.now.table.now.laid.sized _ _ c.has.ensures ∙ c.if-not-has.false) c.if-part-eq0.false c.if-part-eq2.false c.if-part-eq3.false

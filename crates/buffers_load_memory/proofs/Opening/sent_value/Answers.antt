@@ -1,0 +1,20 @@
+-- Nothing is received (`nothing_sent`), or the sender's line says what is sent (`something_sent`).
+use mathlib.Core.Path.{refl, sym, ◌∙◌}
+use borrow.Author.Tests.{eqb-true, eqb-false}
+use Rattle.model.specs.ModuleFile.{module_of}
+use Rattle.file_mod_table.proofs.Senders.{sender_is, no_sender_is}
+use Rattle.buffers_load_files.specs.Checked.{value_in}
+use Rattle.buffers_load_memory.proofs.Memory.{nothing_sent, something_sent}
+use Rattle.buffers_load_memory.proofs.Opening.sent_value.Goals as goal
+
+pub returns-in_default : goal.returns-in_default
+returns-in_default c =
+    let none = no_sender_is _ (sym c.sender_at.ensures.value ∙ c.in_default.is) in
+    sym (nothing_sent (module_of c.args.self.now.table.now.modfile.now) (value_in c.args.self.now.values.now) _ _ _ refl (eqb-true _ _ none))
+
+pub returns : goal.returns
+returns c =
+    let from = sender_is _ _ (sym c.sender_at.ensures.value ∙ c.in-Some.is) in
+    let m = module_of c.args.self.now.table.now.modfile.now in
+    c.local_value.ensures
+    ∙ sym (something_sent m (value_in c.args.self.now.values.now) _ _ _ (sym from.same) (λ e. eqb-false _ _ from.some (from.same ∙ e)) _ c.send_location_at-location.ensures.0)
