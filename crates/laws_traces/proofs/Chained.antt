@@ -1,5 +1,5 @@
 -- The two calls one after the other, each by its contract: what was turned comes back, and the second call is not refused.
-use Prim.Native.Nat.{ℕ, ◌<◌}
+use Prim.Native.Nat.{ℕ, ◌<◌, ◌≤◌}
 use mathlib.Core.Path.{◌≡◌, sym, ◌∙◌, ap, ap₂}
 use mathlib.Core.Bool.{true}
 use mathlib.Core.List.{List}
@@ -13,19 +13,19 @@ use Rattle.session_answers.specs.Left.{left_after}
 use Rattle.session_answers.proofs.Left.{left_done}
 use Rattle.session_answers.proofs.Recorded.{recorded_pass}
 use Rattle.session_answers.proofs.Calls.{done_passed, passed_done}
-use Rattle.traces.specs.Turned.{values_length, block_length, recorded, turned, turned_back, unused_clear}
-use Rattle.traces.specs.Checks.{sizes_check, values_check, turn_check, turn_back_check}
-use Rattle.traces.proofs.Refusals.{Sizes, sizes_right, sizes_pass, values_legal}
+use Rattle.traces.specs.Turned.{most_cycles, values_length, block_length, recorded, turned, turned_back, unused_clear}
+use Rattle.traces.specs.Checks.{sizes_check, values_check, unused_check, turn_check, turn_back_check}
+use Rattle.traces.proofs.Refusals.{Sizes, sizes_right, sizes_of, count_high, values_legal}
 use Rattle.laws_traces.specs.Calls.{Turns, TurnsBack}
 use Rattle.laws_traces.proofs.RoundTrip.{turned_length, turned_clear, turned_within, forth_and_back, back_length, back_small, back_and_forth}
 use Rattle.laws_traces.proofs.Refusals.{turn_numbered, back_numbered, check_within}
 
--- lengths and count of one call serve the other
+-- the count of one call serves the other
 sizes_again : (values block others last : List ℕ) (count : ℕ) → sizes_check values block count ≡ pass
     → length others ≡ values_length → length last ≡ block_length → sizes_check others last count ≡ pass
+unfolding sizes_check
 sizes_again values block others last count e v b =
-    let right = sizes_right values block count e in
-    sizes_pass others last count v b (λ (z : count ≡ 0). omega (arith, right.count_low)) right.count_high
+    sizes_right others last count (record { values_size = v; block_size = b }) ∙ first_right _ _ e
 
 -- "Only values within the count are read": with values that agree there a call answers and leaves the same
 pub turn_reads_within : {values others block left left' : List ℕ} {count bits bits' : ℕ} → length values ≡ length others
@@ -43,7 +43,7 @@ turn_reads_within {values} {others} {block} {count = count} long same first seco
 module _ {values block others left values' : List ℕ} {count bits bits' : ℕ} where
   pub turn_then_back : Turns values block count bits left → bits ≡ 0 → length others ≡ values_length → TurnsBack left others count bits' values'
       → (bits' ≡ 0) × (values' ≡ listed values_length (recorded values count))
-  unfolding turn_check turn_back_check
+  unfolding turn_check turn_back_check unused_check
   turn_then_back turns done long back = (
     back.answer ∙ ap (λ (l : List ℕ). check_bits (turn_back_check l others count)) is ∙ passed_done _ passed,
     back.leaves
@@ -68,7 +68,7 @@ module _ {values block others left values' : List ℕ} {count bits bits' : ℕ} 
 module _ {block values others left block' : List ℕ} {count bits bits' : ℕ} where
   pub back_then_turn : TurnsBack block values count bits left → bits ≡ 0 → ((b : ℕ) → b < block_length → get_or block b 0 < 256)
       → length others ≡ block_length → Turns left others count bits' block' → (bits' ≡ 0) × (block' ≡ block)
-  unfolding turn_check turn_back_check values_check
+  unfolding turn_check turn_back_check unused_check values_check
   back_then_turn back done bytes long turns = (
     turns.answer ∙ ap (λ (l : List ℕ). check_bits (turn_check l others count)) is ∙ passed_done _ passed,
     turns.leaves
@@ -80,8 +80,11 @@ module _ {block values others left block' : List ℕ} {count bits bits' : ℕ} w
       accepted : turn_back_check block values count ≡ pass
       accepted = done_passed _ (back_numbered values block count) (sym back.answer ∙ done)
 
-      right : Sizes values block count
-      right = sizes_right values block count (first_left _ _ accepted)
+      right : Sizes values block
+      right = sizes_of values block count (first_left _ _ accepted)
+
+      few : count ≤ most_cycles
+      few = count_high count (sym (sizes_right values block count right) ∙ first_left _ _ accepted)
 
       clear : unused_clear block count ≡ true
       clear = unless_true _ 52 0 (first_right _ _ accepted)
@@ -94,4 +97,4 @@ module _ {block values others left block' : List ℕ} {count bits bits' : ℕ} w
           first_both _ _
           (sizes_again values block (turned_back block count) others count (first_left _ _ accepted) (back_length block count) long)
           (below_all count _
-          (λ c low. recorded_pass _ (back_small block count c (omega (arith, right.count_high)))))
+          (λ c low. recorded_pass _ (back_small block count c (omega (arith, few)))))

@@ -11,8 +11,9 @@ use Rattle.model.specs.Session.{Lengths, same_lengths, refused}
 use Rattle.buffers_lengths.specs.Lengths.{fixed}
 use Rattle.session_answers.specs.Answers.{answer_bits, check_bits}
 use Rattle.file_checks.specs.Answer.{file_refusal}
-use Rattle.file_checks.specs.declared.FileAnswer.{FileAnswer}
-use Rattle.file_checks.specs.declared.FileAnswer.TheVariants.{Accepted, Refused}
+use Rattle.std.specs.Prelude.{Result, Ok, Err}
+use Rattle.file_lines.specs.Answer.{answered}
+use Rattle.file_checks.specs.declared.FileRefusal.{FileRefusal}
 use Rattle.session_opening.specs.Opened.{opening_check, cleared, left_by}
 
 module _ (limit : ℕ) (files : Files) (lent : Lengths) where
@@ -25,12 +26,12 @@ module _ (limit : ℕ) (files : Files) (lent : Lengths) where
   right_length e = rw e
 
 -- the files' answer, as their check
-module _ (files : Files) (r : FileAnswer) (is : file_refusal r ≡ file_check panel_limit files) where
-  pub files_accepted : r ≡ Accepted → file_check panel_limit files ≡ pass
-  files_accepted e = sym is ∙ ap file_refusal e
+module _ (files : Files) (r : Result (Unit {0}) FileRefusal) (is : answered file_refusal r ≡ file_check panel_limit files) where
+  pub files_accepted : {x : Unit {0}} → r ≡ Ok x → file_check panel_limit files ≡ pass
+  files_accepted e = sym is ∙ ap (answered file_refusal) e
 
-  pub files_refused : {number returned : ℕ} → r ≡ Refused number returned → file_check panel_limit files ≡ fail number returned
-  files_refused e = sym is ∙ ap file_refusal e
+  pub files_refused : {e : FileRefusal} → r ≡ Err e → file_check panel_limit files ≡ file_refusal e
+  files_refused e = sym is ∙ ap (answered file_refusal) e
 
 module _ {check : Check} {number returned : ℕ} (e : check ≡ fail number returned) where
   pub refused_bits : answer_bits (refused number returned) ≡ check_bits check

@@ -2,15 +2,15 @@
 
 #![tactic(auto)]
 
-ghost use Rattle.std.specs.Prelude.{◌≡◌, length};
+ghost use Rattle.std.specs.Prelude.{◌≡◌, ℕ, List, length};
 ghost use Rattle.model.specs.Files.{files_of};
 ghost use Rattle.model.specs.Acceptance.{panel_limit, file_check};
-ghost use Rattle.model.specs.Session.{refused};
 ghost use Rattle.buffers_load_files.specs.Loaded.{panel_of, program_of, opening_bytes};
-ghost use Rattle.session_answers.specs.Answers.{answer_bits, check_bits};
+ghost use Rattle.session_answers.specs.Answers.{check_bits};
 ghost use Rattle.session_opening.specs.Opened.{opening_check_lent, cleared, left_by};
 
-use file_checks::FileAnswer;
+use file_lines::Refusal;
+use session_answers::CallRefusal;
 
 // The working buffers all zero.
 fn clear_all(panel: &mut [u8], program: &mut [u8], memory: &mut [u8])
@@ -24,12 +24,13 @@ fn clear_all(panel: &mut [u8], program: &mut [u8], memory: &mut [u8])
 }
 
 // "A refused opening leaves the working buffers all zero, as far as they were lent to it."
-fn refuse(number: u8, returned: u32, panel: &mut [u8], program: &mut [u8], memory: &mut [u8]) -> u64
-    ensures value { result ≡ answer_bits (refused number returned) }
-    ensures panel_after { panel.new ≡ cleared (length panel.old) }
-    ensures program_after { program.new ≡ cleared (length program.old) }
-    ensures memory_after { memory.new ≡ cleared (length memory.old) }
+fn refuse<R: Refusal>(refusal: R, panel: &mut [u8], program: &mut [u8], memory: &mut [u8]) -> u64
+    ensures value { result ≡ check_bits (R.refusal refusal) }
+    ensures panel_after { (bytes : List ℕ) → panel.new ≡ left_by (R.refusal refusal) bytes panel.old }
+    ensures program_after { (bytes : List ℕ) → program.new ≡ left_by (R.refusal refusal) bytes program.old }
+    ensures memory_after { (bytes : List ℕ) → memory.new ≡ left_by (R.refusal refusal) bytes memory.old }
 {
+    let (number, returned) = refusal.told();
     clear_all(panel, program, memory);
     session_answers::refusal_bits(number, returned)
 }
@@ -49,21 +50,18 @@ pub fn open(
     ensures memory { memory.new ≡ left_by (opening_check_lent panel_limit (files_of net.now modfile.now stim.now) panel.old program.old memory.old) (opening_bytes (files_of net.now modfile.now stim.now)) memory.old }
 {
     if !buffers_lengths::lengths_right(panel, program, memory) {
-        return refuse(40, 0, panel, program, memory);
+        return refuse(CallRefusal::WrongLength, panel, program, memory);
     }
-    let FileAnswer::Refused(number, returned) = file_checks::check_files(net, modfile, stim) else {
+    let Err(refusal) = file_checks::check_files(net, modfile, stim) else {
         buffers_load::load(net, modfile, stim, panel, program, memory);
         return 0;
     };
-    refuse(number, returned as u32, panel, program, memory)
+    refuse(refusal, panel, program, memory)
 }
 
 // The check of the three files alone, in the opening's bits: 0 where they are accepted, else the refusal.
 pub fn check(net: &[u8], modfile: &[u8], stim: &[u8]) -> u64
     ensures answer { result ≡ check_bits (file_check panel_limit (files_of net.now modfile.now stim.now)) }
 {
-    let FileAnswer::Refused(number, returned) = file_checks::check_files(net, modfile, stim) else {
-        return 0;
-    };
-    session_answers::refusal_bits(number, returned as u32)
+    session_answers::check_bits(file_checks::check_files(net, modfile, stim))
 }

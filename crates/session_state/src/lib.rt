@@ -2,16 +2,18 @@
 
 #![tactic(auto)]
 
-ghost use Rattle.std.specs.Prelude.{◌≡◌, List, ℕ, ◌≤◌, ◌<◌, length, Err};
+ghost use Rattle.std.specs.Prelude.{◌≡◌, List, ℕ, ◌≤◌, ◌<◌, Err};
 ghost use Rattle.model.specs.Session.{set as setting, watch as watching, read as reading, run as running};
 ghost use Rattle.buffers_memory.specs.Memory.{with_memory, MemoryBytes};
-ghost use Rattle.buffers_tables.specs.Panel.{panel_length, signals_in, processor_in, processors_in, slots_in};
+ghost use Rattle.buffers_tables.specs.Panel.{signals_in, processor_in, processors_in, slots_in};
 ghost use Rattle.buffers_tables.specs.Tables.{Tables};
 ghost use Rattle.machine_run.specs.Running.{watch_of, Watching};
 ghost use Rattle.session_state.specs.Header.{head_in, with_head};
 ghost use Rattle.session_state.specs.Carried.{head_of};
 ghost use Rattle.session_state.specs.Commands.{signal_in, input_in, commanded, Tells};
 
+use buffers_memory::Memory;
+use buffers_tables::{Panel, Program};
 use clock::Cycle;
 use gates::TruthTables;
 use machine_run::Watch;
@@ -33,8 +35,7 @@ pub struct Told {
 }
 
 // The session that a panel holds. Written back as it is, it changes no byte.
-pub fn decode(panel: &[u8]) -> Session
-    requires { length panel.now ≡ panel_length }
+pub fn decode(panel: &Panel) -> Session
     ensures { (head_of result panel.now ≡ head_in panel.now) × (with_head (head_in panel.now) panel.now ≡ panel.now) }
 {
     Session {
@@ -48,8 +49,7 @@ pub fn decode(panel: &[u8]) -> Session
 
 // A signal of the network: 1 to N.
 #[tactic(auto, using(logic::proofs::Judged::connected), unfolding(crate::specs::Commands::signal_in))]
-fn is_signal(panel: &[u8], signal: u32) -> bool
-    requires { length panel.now ≡ panel_length }
+fn is_signal(panel: &Panel, signal: u32) -> bool
     ensures { result ≡ signal_in panel.now signal }
 {
     signal != 0 && signal <= u32::from(buffers_tables::signals(panel))
@@ -57,8 +57,8 @@ fn is_signal(panel: &[u8], signal: u32) -> bool
 
 // An input of the network: "setting a gate" is refused.
 #[tactic(auto, using(logic::proofs::Judged::connected), unfolding(crate::specs::Commands::input_in))]
-fn is_input(panel: &[u8], signal: u32) -> bool
-    requires { (length panel.now ≡ panel_length) × (signals_in panel.now ≤ 4096) }
+fn is_input(panel: &Panel, signal: u32) -> bool
+    requires { signals_in panel.now ≤ 4096 }
     ensures { result ≡ input_in panel.now signal }
 {
     is_signal(panel, signal) && buffers_tables::kind(panel, signal as usize) == 1
@@ -66,8 +66,7 @@ fn is_input(panel: &[u8], signal: u32) -> bool
 
 impl Session {
     // The session written into a panel: N, P, C and the signals' numbers, which have the values in hand, stay.
-    pub fn encode(self, panel: &mut [u8])
-        requires { length panel.old ≡ panel_length }
+    pub fn encode(self, panel: &mut Panel)
         ensures { panel.new ≡ with_head (head_of self panel.old) panel.old }
     {
         buffers_tables::set_finished(panel, self.finished.0);
@@ -85,8 +84,8 @@ impl Session {
     }
 
     // "Set an input for the next cycle": its value in hand is replaced in the panel, and no other byte. Refused, none is.
-    pub fn set(self, panel: &mut [u8], input: u32, value: u32) -> Told
-        requires { (length panel.old ≡ panel_length) × (signals_in panel.old ≤ 4096) }
+    pub fn set(self, panel: &mut Panel, input: u32, value: u32) -> Told
+        requires { signals_in panel.old ≤ 4096 }
         ensures { (program memory : List ℕ) → Tells (commanded panel.old program memory (head_of self panel.old) (setting input value)) result panel.old panel.new }
     {
         let known = is_input(panel, input);
@@ -104,8 +103,8 @@ impl Session {
     }
 
     // "set the one watch (signal, mask 0 to 15 ..)"
-    pub fn watch(self, panel: &[u8], signal: u32, mask: u32) -> Told
-        requires { (length panel.now ≡ panel_length) × (signals_in panel.now ≤ 4096) }
+    pub fn watch(self, panel: &Panel, signal: u32, mask: u32) -> Told
+        requires { signals_in panel.now ≤ 4096 }
         ensures { (program memory : List ℕ) → Tells (commanded panel.now program memory (head_of self panel.now) (watching signal mask)) result panel.now panel.now }
     {
         if !is_signal(panel, signal) {
@@ -129,9 +128,9 @@ impl Session {
     }
 
     // "Reads give the value at the end of the last finished cycle."
-    pub fn read(self, panel: &[u8], memory: &[u8], signal: u32) -> Told
-        requires panel_len { (length panel.now ≡ panel_length) × (signals_in panel.now ≤ 4096) }
-        requires by_index { (s : ℕ) → 1 ≤ s → s ≤ signals_in panel.now → processor_in panel.now s < 16 }
+    pub fn read(self, panel: &Panel, memory: &Memory, signal: u32) -> Told
+        requires signals_high { signals_in panel.now ≤ 4096 }
+        requires processors_low { (s : ℕ) → 1 ≤ s → s ≤ signals_in panel.now → processor_in panel.now s < 16 }
         requires memory_bytes { MemoryBytes memory.now }
         ensures { (program : List ℕ) → Tells (commanded panel.now program memory.now (head_of self panel.now) (reading signal)) result panel.now panel.now }
     {
@@ -149,9 +148,9 @@ impl Session {
     pub fn run(
         self,
         tables: &TruthTables,
-        panel: &[u8],
-        program: &[u8],
-        memory: &mut [u8],
+        panel: &Panel,
+        program: &Program,
+        memory: &mut Memory,
         cycles: u32,
     ) -> Told
         requires tables { Tables panel.now program.now }

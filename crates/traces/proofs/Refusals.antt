@@ -5,7 +5,7 @@ use mathlib.Core.Bool.{true}
 use mathlib.Core.List.{List}
 use lib.ListN.{length, get_or, take}
 use Rattle.std.proofs.lemmas.List.{get_or-take, length-take-le}
-use borrow.Author.Tests.{eqb-true, eq-eqb, le-leb, lt-leb}
+use borrow.Author.Tests.{eqb-true, eq-eqb, le-leb, lt-leb, leb-true}
 use native.Mathlib.Omega.{arith}
 use Rattle.logic.specs.Test.{◌and◌}
 use mathlib.Core.Logic.{◌⊎◌, ⊎_elim}
@@ -68,6 +68,11 @@ module _ (count : ℕ) where
   pub count_pass : (count ≡ 0 → ⊥) → count ≤ most_cycles → count_check count ≡ pass
   unfolding count_check count_right
   count_pass some few = unless_pass _ 52 0 (and_true _ _ (le-leb 1 count (omega arith)) (le-leb count most_cycles few))
+
+-- a count that passed
+pub count_high : (count : ℕ) → count_check count ≡ pass → count ≤ most_cycles
+unfolding count_check count_right
+count_high count e = leb-true count most_cycles (and_right _ _ (unless_true _ 52 0 e))
 
 module _ (values : List ℕ) (count : ℕ) where
   -- the values that are judged

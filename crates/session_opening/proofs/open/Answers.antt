@@ -2,24 +2,28 @@
 use mathlib.Core.Path.{sym, ◌∙◌}
 use borrow.Author.Tests.{not-true, not-false}
 use Rattle.model.specs.Files.{files_of}
+use Rattle.model.specs.Acceptance.{panel_limit}
+use Rattle.buffers_lengths.specs.Lengths.{lengths_lent}
 use Rattle.model.proofs.Accepted.{mod_accepted, stim_accepted}
 use native.Mathlib.Omega.{arith}
 use Rattle.model.proofs.Checked.{files_checked}
 use Rattle.buffers_load_files.specs.Loaded.{panel_of, program_of, opening_bytes}
 use Rattle.buffers_lengths.proofs.Sizes.{same_sizes}
-use Rattle.session_opening.proofs.Outcome.{wrong_length, right_length, files_accepted, files_refused, refused_bits, refused_left, accepted_bits, accepted_left}
+use Rattle.session_opening.proofs.Outcome.{wrong_length, right_length, files_accepted, files_refused, accepted_bits, accepted_left}
 use mathlib.Core.Path.{ap}
 use mathlib.Core.Bool.{not}
 use Rattle.session_opening.proofs.open.Goals as goal
 
 pub returns-then-not-lengths_right : goal.returns-then-not-lengths_right
 returns-then-not-lengths_right c =
-    let e = wrong_length _ _ _ (sym c.lengths_right.ensures ∙ not-true _ (ap not c.if-not-lengths_right.true)) in
+    let files = files_of c.args.net.now c.args.modfile.now c.args.stim.now in
+    let lent = lengths_lent c.args.panel.now c.args.program.now c.args.memory.now in
+    let e = wrong_length panel_limit files lent (sym c.lengths_right.ensures ∙ not-true _ (ap not c.if-not-lengths_right.true)) in
     record {
-      answer = c.refuse.ensures.value ∙ refused_bits e;
-      panel = c.refuse.ensures.panel_after ∙ refused_left e _ _;
-      program = c.refuse.ensures.program_after ∙ refused_left e _ _;
-      memory = c.refuse.ensures.memory_after ∙ refused_left e _ _;
+      answer = rw e c.refuse.ensures.value;
+      panel = rw e (c.refuse.ensures.panel_after _);
+      program = rw e (c.refuse.ensures.program_after _);
+      memory = rw e (c.refuse.ensures.memory_after _);
     }
 
 pub load-requires : goal.load-requires
@@ -48,10 +52,10 @@ returns-in_default c =
 pub returns : goal.returns
 returns c =
     let e = right_length _ _ _ (sym c.lengths_right.ensures ∙ not-false _ (ap not c.if-not-lengths_right.false))
-    ∙ files_refused _ _ c.check_files.ensures c.in-Refused.is in
+    ∙ files_refused _ _ c.check_files.ensures c.in-Err.is in
     record {
-      answer = c.refuse-2.ensures.value ∙ refused_bits e;
-      panel = c.refuse-2.ensures.panel_after ∙ refused_left e _ _;
-      program = c.refuse-2.ensures.program_after ∙ refused_left e _ _;
-      memory = c.refuse-2.ensures.memory_after ∙ refused_left e _ _;
+      answer = rw e c.refuse-2.ensures.value;
+      panel = rw e (c.refuse-2.ensures.panel_after _);
+      program = rw e (c.refuse-2.ensures.program_after _);
+      memory = rw e (c.refuse-2.ensures.memory_after _);
     }

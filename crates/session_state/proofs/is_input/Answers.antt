@@ -5,4 +5,4 @@ use Rattle.session_state.proofs.Commands.{signal_high}
 use Rattle.session_state.proofs.is_input.Goals as goal
 
 pub kind-requires : goal.kind-requires
-kind-requires c = (c.requires.0, omega (arith, c.requires.1, signal_high _ _ (sym c.is_signal.ensures ∙ c.if-is_signal.true)))
+kind-requires c = omega (arith, c.requires, signal_high _ _ (sym c.is_signal.ensures ∙ c.if-is_signal.true))

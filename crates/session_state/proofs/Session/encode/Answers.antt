@@ -9,4 +9,4 @@ pub returns : goal.returns
 returns c =
     c.set_watch.ensures
     ∙ ap (with_watch c.args.self.watch.signal c.args.self.watch.mask) c.set_finished.ensures
-    ∙ numbered c.args.self.finished.0 (watch_of c.args.self.watch) c.args.panel.now c.requires
+    ∙ numbered c.args.self.finished.0 (watch_of c.args.self.watch) c.args.panel.now c.told-panel

@@ -16,23 +16,23 @@ returns-then-not-is_signal c =
     rw c.refused.ensures
     (tells _ _ _ _ _
     (read_no_signal c.args.panel.now program c.args.memory.now (head_of c.args.self c.args.panel.now) c.args.signal (fails _ _ c.is_signal.ensures (ap not c.if-not-is_signal.true)))
-    refl refl refl (sym (hands_own _ c.requires.panel_len.0)))
+    refl refl refl (sym (hands_own _ c.told-panel)))
 
 pub overflow_cast-signal : goal.overflow_cast-signal
 overflow_cast-signal c =
     let l = signal_high c.args.panel.now c.args.signal (passes _ _ c.is_signal.ensures (ap not c.if-not-is_signal.false)) in
     omega arith
 
-pub value_of-value-requires-clause-panel_len : goal.value_of-value-requires-clause-panel_len
-value_of-value-requires-clause-panel_len c =
+pub value_of-value-requires-clause-placed : goal.value_of-value-requires-clause-placed
+value_of-value-requires-clause-placed c =
     let there = passes _ _ c.is_signal.ensures (ap not c.if-not-is_signal.false) in
     let low = signal_low c.args.panel.now c.args.signal there in
     let high = signal_high c.args.panel.now c.args.signal there in
-    (c.requires.panel_len.0, omega (arith, c.requires.panel_len.1), c.requires.by_index c.args.signal low high)
+    (omega (arith, c.requires.signals_high), c.requires.processors_low c.args.signal low high)
 
 pub returns : goal.returns
 returns c =
     λ program.
     tells _ _ _ _ _
     (read_done c.args.panel.now program c.args.memory.now (head_of c.args.self c.args.panel.now) c.args.signal (passes _ _ c.is_signal.ensures (ap not c.if-not-is_signal.false)))
-    (ap (λ (x : ℕ). value x) c.value_of-value.ensures.0) refl refl (sym (hands_own _ c.requires.panel_len.0))
+    (ap (λ (x : ℕ). value x) c.value_of-value.ensures.0) refl refl (sym (hands_own _ c.told-panel))

@@ -11,16 +11,16 @@ use Rattle.session_state.proofs.Session.set.Goals as goal
 
 pub returns-then-not-known : goal.returns-then-not-known
 returns-then-not-known c =
-    λ program memory. rw c.refused.ensures (set_41 c.args.panel.now program memory (head_of c.args.self c.args.panel.now) c.args.input c.args.value _ c.is_input-known.ensures (ap not c.if-not-known.true) _ refl refl refl (sym (hands_own _ c.requires.0)))
+    λ program memory. rw c.refused.ensures (set_41 c.args.panel.now program memory (head_of c.args.self c.args.panel.now) c.args.input c.args.value _ c.is_input-known.ensures (ap not c.if-not-known.true) _ refl refl refl (sym (hands_own _ c.told-panel)))
 
 pub returns-then-value-gt3 : goal.returns-then-value-gt3
 returns-then-value-gt3 c =
     let there : c.is_input-known.result ≡ true = cc in
-    λ program memory. rw c.refused-then-value-gt3.ensures (set_42 c.args.panel.now program memory (head_of c.args.self c.args.panel.now) c.args.input c.args.value _ c.is_input-known.ensures (ap not there) c.if-value-gt3.true _ refl refl refl (sym (hands_own _ c.requires.0)))
+    λ program memory. rw c.refused-then-value-gt3.ensures (set_42 c.args.panel.now program memory (head_of c.args.self c.args.panel.now) c.args.input c.args.value _ c.is_input-known.ensures (ap not there) c.if-value-gt3.true _ refl refl refl (sym (hands_own _ c.told-panel)))
 
 pub set_hand-requires : goal.set_hand-requires
 set_hand-requires c =
-    (c.requires.0, omega (arith, c.requires.1, signal_high c.args.panel.now c.args.input (input_signal c.args.panel.now c.args.input (passes _ _ c.is_input-known.ensures (ap not c.if-not-known.false)))))
+    (omega (arith, c.requires, signal_high c.args.panel.now c.args.input (input_signal c.args.panel.now c.args.input (passes _ _ c.is_input-known.ensures (ap not c.if-not-known.false)))))
 
 pub returns : goal.returns
 returns c =
@@ -30,4 +30,4 @@ returns c =
     tells _ _ _ _ _
     (set_done c.args.panel.now program memory (head_of c.args.self c.args.panel.now) c.args.input c.args.value there c.if-value-gt3.false)
     refl refl refl
-    (c.set_hand.ensures ∙ hands_replaced c.args.panel.now c.requires.0 c.args.input c.args.value (signal_low c.args.panel.now c.args.input known) (omega (arith, c.requires.1, signal_high c.args.panel.now c.args.input known)))
+    (c.set_hand.ensures ∙ hands_replaced c.args.panel.now c.told-panel c.args.input c.args.value (signal_low c.args.panel.now c.args.input known) (omega (arith, c.requires, signal_high c.args.panel.now c.args.input known)))

@@ -11,11 +11,11 @@ use Rattle.session_state.proofs.Session.watch.Goals as goal
 
 pub returns-then-not-is_signal : goal.returns-then-not-is_signal
 returns-then-not-is_signal c =
-    λ program memory. rw c.refused.ensures (watch_41 c.args.panel.now program memory (head_of c.args.self c.args.panel.now) c.args.signal c.args.mask _ c.is_signal.ensures (ap not c.if-not-is_signal.true) _ refl refl refl (sym (hands_own _ c.requires.0)))
+    λ program memory. rw c.refused.ensures (watch_41 c.args.panel.now program memory (head_of c.args.self c.args.panel.now) c.args.signal c.args.mask _ c.is_signal.ensures (ap not c.if-not-is_signal.true) _ refl refl refl (sym (hands_own _ c.told-panel)))
 
 pub returns-then-mask-gt15 : goal.returns-then-mask-gt15
 returns-then-mask-gt15 c =
-    λ program memory. rw c.refused-then-mask-gt15.ensures (watch_42 c.args.panel.now program memory (head_of c.args.self c.args.panel.now) c.args.signal c.args.mask _ c.is_signal.ensures (ap not c.if-not-is_signal.false) c.if-mask-gt15.true _ refl refl refl (sym (hands_own _ c.requires.0)))
+    λ program memory. rw c.refused-then-mask-gt15.ensures (watch_42 c.args.panel.now program memory (head_of c.args.self c.args.panel.now) c.args.signal c.args.mask _ c.is_signal.ensures (ap not c.if-not-is_signal.false) c.if-mask-gt15.true _ refl refl refl (sym (hands_own _ c.told-panel)))
 
 pub overflow_cast-watched : goal.overflow_cast-watched
 overflow_cast-watched c =
@@ -27,4 +27,4 @@ returns c =
     λ program memory.
     tells _ _ _ _ _
     (watch_done c.args.panel.now program memory (head_of c.args.self c.args.panel.now) c.args.signal c.args.mask (passes _ _ c.is_signal.ensures (ap not c.if-not-is_signal.false)) c.if-mask-gt15.false)
-    refl refl refl (sym (hands_own _ c.requires.0))
+    refl refl refl (sym (hands_own _ c.told-panel))
