@@ -9,7 +9,6 @@ ghost use Rattle.model.specs.Netlist.{network, net_check};
 ghost use Rattle.model.specs.ModuleFile.{mod_check};
 ghost use Rattle.model.specs.Stimulus.{stim_check, stim_count};
 ghost use Rattle.model.specs.Acceptance.{panel_limit, file_check};
-ghost use Rattle.model.specs.Checked.{Checked};
 ghost use Rattle.file_lines.specs.Answer.{answered, Answers};
 ghost use Rattle.file_checks.specs.Answer.{file_refusal};
 ghost use Rattle.file_checks.specs.Refused.{refused_text};
@@ -18,6 +17,7 @@ use file_lines::Refusal;
 use file_mod_lines::ModRefusal;
 use file_net::NetRefusal;
 use file_stim::StimRefusal;
+use netlist::Netlist;
 
 // What the files are refused for: the first refusal, in their order.
 #[derive(Clone, Copy, Debug, PartialEq, Eq)]
@@ -80,18 +80,16 @@ pub fn check_net(net: &[u8]) -> Result<(), FileRefusal>
 }
 
 // MOD's check, NET being accepted.
-pub fn check_mod(net: &[u8], modfile: &[u8]) -> Result<(), FileRefusal>
-    requires { Checked net.now }
-    ensures { Answers file_refusal tt (mod_check (network net.now) modfile.now) result }
+pub fn check_mod(net: &Netlist, modfile: &[u8]) -> Result<(), FileRefusal>
+    ensures { Answers file_refusal tt (mod_check (network net.now.net.now) modfile.now) result }
 {
-    file_mod::check_mod(net, modfile)?;
+    file_mod::check_mod(net.net, modfile)?;
     Ok(())
 }
 
 // STIM's check, NET being accepted: how many lines stand before its end line.
-pub fn check_stim(net: &[u8], stim: &[u8]) -> Result<u16, FileRefusal>
-    requires { Checked net.now }
-    ensures { Answers file_refusal (stim_count stim.now) (stim_check (network net.now) stim.now) result }
+pub fn check_stim(net: &Netlist, stim: &[u8]) -> Result<u16, FileRefusal>
+    ensures { Answers file_refusal (stim_count stim.now) (stim_check (network net.now.net.now) stim.now) result }
 {
     let lines = file_stim::check_stim(net, stim)?;
     Ok(lines)
@@ -105,11 +103,12 @@ pub fn check_files(net: &[u8], modfile: &[u8], stim: &[u8]) -> Result<(), FileRe
     let Ok(()) = first else {
         return first;
     };
-    let second = check_mod(net, modfile);
+    let net = Netlist::new(net);
+    let second = check_mod(&net, modfile);
     let Ok(()) = second else {
         return second;
     };
-    check_stim(net, stim)?;
+    check_stim(&net, stim)?;
     Ok(())
 }
 

@@ -1,5 +1,4 @@
 pub mod Rising
-pub mod InPlace
 pub mod Judging
 pub mod Lines
 pub mod Steps

@@ -2,18 +2,18 @@
 
 #![tactic(auto)]
 
-ghost use Rattle.std.specs.Prelude.{◌≡◌, true, ◌<◌, eqb};
+ghost use Rattle.std.specs.Prelude.{◌≡◌, true, ◌<◌};
 ghost use Rattle.fields.specs.Line.{is_line_at};
-ghost use Rattle.model.specs.Network.{is_signal, input};
+ghost use Rattle.model.specs.Network.{is_signal};
 ghost use Rattle.model.specs.Netlist.{network};
 ghost use Rattle.model.specs.Stimulus.{stim_line, stim_limit, stim_check};
-ghost use Rattle.model.specs.Checked.{Checked};
 ghost use Rattle.file_stim.specs.Answer.{StimAnswers};
 ghost use Rattle.file_stim.specs.Stepping.{step_at, step_of};
 ghost use Rattle.file_stim.specs.Judging.{numbers_of, ends, rises, gives, may, judged_end, judged_given};
 
 use clock::Cycle;
 use file_lines::Refusal;
+use netlist::Netlist;
 
 // What STIM is refused for, with the line.
 #[derive(Clone, Copy, Debug, PartialEq, Eq)]
@@ -84,49 +84,28 @@ fn judge_end(index: u16, last: bool, before: Line, here: Line) -> Result<u16, St
     Ok(index)
 }
 
-// "A signal is 1 to N".
-#[tactic(auto, using(crate::proofs::InPlace::size_read), unfolding(model::specs::Network::is_signal))]
-fn is_signal(net: &[u8], s: u16) -> bool
-    requires { Checked net.now }
-    ensures { result ≡ is_signal (network net.now) s }
-{
-    1 <= s && s <= fields::number_at(net, 6)
-}
-
-// NET has the signal s as an input. Its kind is read in place, the first field of its line.
-fn is_input(net: &[u8], s: u16) -> bool
-    requires checked { Checked net.now }
-    requires s_value { is_signal (network net.now) s ≡ true }
-    ensures { result ≡ eqb ((network net.now).kind s) input }
-{
-    fields::number_at(net, 73 * usize::from(s)) == 1
-}
-
 // A line that gives a value has its signal, its value and its place in the order right.
 #[tactic(auto, using(logic::proofs::Judged::connected), unfolding(crate::specs::Judging::gives))]
-fn gives_value(net: &[u8], before: Line, here: Line) -> bool
-    requires { Checked net.now }
-    ensures { result ≡ gives (network net.now) before here }
+fn gives_value(net: &Netlist, before: Line, here: Line) -> bool
+    ensures { result ≡ gives (network net.now.net.now) before here }
 {
-    is_signal(net, here.signal) && here.value <= 3 && here.is_above(before)
+    net.is_signal(here.signal) && here.value <= 3 && here.is_above(before)
 }
 
 // "Time 0 may name any signal, a later time only inputs."
 #[tactic(auto, using(logic::proofs::Judged::connected), unfolding(crate::specs::Judging::may))]
-fn may_give(net: &[u8], here: Line) -> bool
-    requires checked { Checked net.now }
-    requires of_signal { is_signal (network net.now) here.signal ≡ true }
-    ensures { result ≡ may (network net.now) here }
+fn may_give(net: &Netlist, here: Line) -> bool
+    requires { is_signal (network net.now.net.now) here.signal ≡ true }
+    ensures { result ≡ may (network net.now.net.now) here }
 {
-    here.time.0 == 0 || is_input(net, here.signal)
+    here.time.0 == 0 || net.is_input(here.signal)
 }
 
 // A line that gives a value: 31 where the signal, the value or the order is wrong, then 32 for a gate at a later time.
 #[tactic(auto, using(crate::proofs::Judging::gives_signal), unfolding(crate::specs::Judging::judged_given))]
-fn judge_given(net: &[u8], index: u16, before: Line, here: Line) -> Result<(), StimRefusal>
-    requires checked { Checked net.now }
-    requires index_lt_stim_limit { index < stim_limit }
-    ensures { result ≡ judged_given (network net.now) index before here }
+fn judge_given(net: &Netlist, index: u16, before: Line, here: Line) -> Result<(), StimRefusal>
+    requires { index < stim_limit }
+    ensures { result ≡ judged_given (network net.now.net.now) index before here }
 {
     if !gives_value(net, before, here) {
         return Err(StimRefusal::Layout(index + 1));
@@ -137,11 +116,10 @@ fn judge_given(net: &[u8], index: u16, before: Line, here: Line) -> Result<(), S
     Ok(())
 }
 
-// STIM's check, NET being accepted: its lines in order, 30 before 31 before 32 in each, and left at the first fault with its line or at
+// STIM's check: its lines in order, 30 before 31 before 32 in each, and left at the first fault with its line or at
 // the end line, with the number of lines before it. "At most 65534 lines": line 65535 is missing or surplus.
-pub fn check_stim(net: &[u8], stim: &[u8]) -> Result<u16, StimRefusal>
-    requires { Checked net.now }
-    ensures { StimAnswers stim.now (stim_check (network net.now) stim.now) result }
+pub fn check_stim(net: &Netlist, stim: &[u8]) -> Result<u16, StimRefusal>
+    ensures { StimAnswers stim.now (stim_check (network net.now.net.now) stim.now) result }
 {
     let mut answer = Err(StimRefusal::Misformed(65535));
     let mut before = Line {

@@ -20,17 +20,20 @@ returns-in_default c = net_stops _ _ _ c.check_net-first.ensures c.in_default.is
 
 pub returns-in_default-second : goal.returns-in_default-second
 returns-in_default-second c =
-    mod_stops _ _ _ (net_right (goal.at.returns-in_default-second c).In-Ok) c.check_mod-second.ensures c.in_default-second.is
+    let answers = rw c.new-net.ensures at c.check_mod-second.ensures in
+    mod_stops _ _ _ (net_right (goal.at.returns-in_default-second c).In-Ok) answers c.in_default-second.is
 
 pub returns-in_err-check_stim : goal.returns-in_err-check_stim
 returns-in_err-check_stim c =
-    let mod_right = passes c.check_mod-second.ensures c.in-Ok-second.is in
-    let last = stim_last _ _ _ (net_right (goal.at.returns-in_err-check_stim c).In-Ok) mod_right c.check_stim.ensures in
+    let mod_right = passes (rw c.new-net.ensures at c.check_mod-second.ensures) c.in-Ok-second.is in
+    let answers = rw c.new-net.ensures at c.check_stim.ensures in
+    let last = stim_last _ _ _ (net_right (goal.at.returns-in_err-check_stim c).In-Ok) mod_right answers in
     let same : c.from_residual.result ≡ Err c.in_err-check_stim.field-0.0 = search rules in
     ap (answered file_refusal) same ∙ sym (ap (answered file_refusal) c.in_err-check_stim.was) ∙ last
 
 pub returns : goal.returns
 returns c =
-    let mod_right = passes c.check_mod-second.ensures c.in-Ok-second.is in
+    let mod_right = passes (rw c.new-net.ensures at c.check_mod-second.ensures) c.in-Ok-second.is in
+    let answers = rw c.new-net.ensures at c.check_stim.ensures in
     sym (ap (answered file_refusal) c.in_ok-check_stim.was)
-    ∙ stim_last _ _ _ (net_right (goal.at.returns c).In-Ok) mod_right c.check_stim.ensures
+    ∙ stim_last _ _ _ (net_right (goal.at.returns c).In-Ok) mod_right answers

@@ -22,5 +22,5 @@ invariant-lines l =
     record {
       unanswered : l.answer ≡ Err (Misformed 65535);
       before : l.before ≡ numbers_before l.stim l.index;
-      reached : Reached (network l.net) l.stim l.index;
+      reached : Reached (network l.net.net.now) l.stim l.index;
     }
