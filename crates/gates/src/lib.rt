@@ -84,7 +84,7 @@ impl TruthTables {
         requires g_bound { (g ≤ 6) × Code v }
         ensures { (result ≡ translation g v) × Code result }
     {
-        self.translations[4 * (g as usize) + (v as usize)]
+        self.translations[4 * usize::from(g) + usize::from(v)]
     }
 
     // Function f of four operands.
@@ -92,11 +92,11 @@ impl TruthTables {
         requires f_bound { (f ≤ 4) × Code a × Code b × Code c × Code d }
         ensures { (result ≡ function f a b c d) × Code result }
     {
-        self.functions[256 * (f as usize)
-            + 64 * (a as usize)
-            + 16 * (b as usize)
-            + 4 * (c as usize)
-            + (d as usize)]
+        self.functions[256 * usize::from(f)
+            + 64 * usize::from(a)
+            + 16 * usize::from(b)
+            + 4 * usize::from(c)
+            + usize::from(d)]
     }
 }
 

@@ -64,7 +64,7 @@ pub fn value_of(panel: &Panel, memory: &Memory, signal: u16) -> u8
     requires memory_bytes { MemoryBytes memory.now }
     ensures { (result ≡ (memory_of memory.now).earlier_local (processor_in panel.now signal) (slot_in panel.now signal)) × Code result }
 {
-    let s = signal as usize;
+    let s = usize::from(signal);
     let processor = buffers_tables::place_processor(panel, s);
     let slot = buffers_tables::place_slot(panel, s);
     buffers_memory::fetch(memory, processor, Operand::LocalEarlier(slot))

@@ -7,4 +7,4 @@ use Rattle.gates.proofs.TruthTables.translate.Goals as goal
 pub returns : goal.returns
 returns c =
     let is = c.args.self.now.right.translations_right.rules _ _ c.requires.g_bound.0 c.requires.g_bound.1 in
-    (is, subst Code (sym is) (translation_code _ c.requires.g_bound.1))
+    rw (c.from.ensures, c.from-2.ensures) (is, subst Code (sym is) (translation_code _ c.requires.g_bound.1))
