@@ -1,15 +1,14 @@
 -- The buffers by an array of the time 0 values are the buffers by the files: only the signals 1 to N are read from the array.
 use Prim.Native.Nat.{ℕ, zero, suc, ◌<◌, ◌≤◌}
-use mathlib.Core.Path.{◌≡◌, refl, sym, ◌∙◌, ap}
+use mathlib.Core.Path.{◌≡◌, refl, sym, ◌∙◌}
 use mathlib.Core.Bool.{Bool, true, false}
 use mathlib.Core.List.{List}
 use native.Mathlib.Omega.{arith}
 use native.Mathlib.Decide.{ℕ_discrete}
-use lib.ListN.{length, get_or}
+use lib.ListN.{get_or}
 use borrow.Author.Tests.{le-leb}
 use Rattle.logic.specs.Test.{◌and◌}
 use Rattle.logic.specs.Listed.{listed}
-use Rattle.logic.proofs.Listed.{listed_length}
 use Rattle.model.specs.Refusal.{pass}
 use Rattle.model.specs.Files.{Files}
 use Rattle.model.specs.Network.{is_signal}
@@ -51,9 +50,6 @@ module _ (files : Files) (values : List ℕ) (e : values ≡ listed 4097 (time_z
 
   abbrev modfile : List ℕ
   modfile = files.MOD
-
-  pub values_size : length values ≡ 4097
-  values_size = ap length e ∙ listed_length 4097 _
 
   pub values_none : get_or values 0 0 ≡ 0
   values_none = array_at (time_zero files) values e 0 (omega arith) ∙ zero_is files

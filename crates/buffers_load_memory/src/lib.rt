@@ -11,10 +11,14 @@ ghost use Rattle.buffers_load_files.specs.Loaded.{opening_with};
 ghost use Rattle.buffers_load_files.specs.Checked.{value_in};
 ghost use Rattle.buffers_load_memory.specs.Bytes.{sent_value, opening_byte};
 
-use buffers_memory::{PART_STRIDE, PROCESSOR_STRIDE};
+use buffers_memory::{PART_STRIDE, PROCESSOR_STRIDE, SWITCH_PRESENT};
 use clock::Slot;
 use file_mod_lines::Place;
 use file_mod_table::ModTable;
+
+// The parts of a processor's memory are numbered by their places in it, as the present ones beside them in buffers_memory.
+const LOCAL_EARLIER: usize = 0;
+const SWITCH_EARLIER: usize = 2;
 
 // What the opening memory is made of: MOD, and the signals' time 0 values, with 0 for an empty slot.
 #[derive(Clone, Copy)]
@@ -62,10 +66,10 @@ impl<'a> Opening<'a> {
             return 0;
         }
         let part = a % PROCESSOR_STRIDE / PART_STRIDE;
-        if part == 0 {
+        if part == LOCAL_EARLIER {
             return self.local_value(place);
         }
-        if part == 2 || part == 3 {
+        if part == SWITCH_EARLIER || part == SWITCH_PRESENT {
             return self.sent_value(place);
         }
         0

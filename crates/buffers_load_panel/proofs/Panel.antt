@@ -1,11 +1,10 @@
 -- The bytes of the panel: the session's, those of a signal, and which bytes they are; and panels by the same numbers are the same.
-use Prim.Native.Nat.{ℕ, zero, suc, ◌+◌, ◌*◌, ◌/◌, ◌%◌, ◌<◌, ◌≤◌}
+use Prim.Native.Nat.{ℕ, zero, suc, ◌+◌, ◌*◌, ◌<◌, ◌≤◌}
 use mathlib.Core.Path.{◌≡◌, refl, sym, ◌∙◌, ap}
 use mathlib.Core.Bool.{Bool, true, false}
 use mathlib.Core.List.{List}
 use mathlib.Core.Logic.{⊎_elim}
 use native.Mathlib.Omega.{arith}
-use native.Mathlib.Nat.{div-lt_iff_lt-mul, mod-lt}
 use lib.Dec.{leb}
 use lib.ListN.{get_or}
 use borrow.Author.Tests.{le-leb, lt-leb, leb-true}
@@ -68,13 +67,6 @@ module _ (net : List ℕ) (s v p i : ℕ) where
   code_byte (suc (suc (suc (suc (suc zero))))) l h = refl
   code_byte (suc (suc (suc (suc (suc (suc zero)))))) l h = refl
   code_byte (suc (suc (suc (suc (suc (suc (suc c))))))) l h = absurd (omega arith)
-
--- the processor and the slot of a line
-pub line_processor_lem : (line slots : ℕ) → 1 ≤ slots → line < 16 * slots → line / slots < 16
-line_processor_lem line slots l h = (div-lt_iff_lt-mul {k = slots} {x = line} {y = 16} (omega arith)).1 h
-
-pub line_slot_lem : (line slots : ℕ) → 1 ≤ slots → line % slots < slots
-line_slot_lem line slots l = mod-lt line {m = slots} (omega arith)
 
 -- which bytes they are
 module _ (net : List ℕ) (P C : ℕ) (place hand : ℕ → ℕ) (column : ℕ) where

@@ -15,6 +15,9 @@ ghost use Rattle.file_mod_lines.specs.Layout.{number_in, header_at, pair_at, ope
 use clock::Slot;
 use file_lines::Refusal;
 
+// The part of a pair that names no location, as the file writes it: compared once, so no enum is made of the parts.
+const NO_PART: u16 = 9;
+
 // What MOD is refused for: a line, and at 22 a signal.
 #[derive(Clone, Copy, Debug, PartialEq, Eq)]
 pub enum ModRefusal {
@@ -123,7 +126,7 @@ impl<'a> Line<'a> {
         let part = self.number(column);
         let location = self.number(column + 1);
         location < slots
-            && if part == 9 {
+            && if part == NO_PART {
                 location == 0
             } else {
                 part <= most

@@ -73,13 +73,10 @@ module _ (l : List ℕ) (c q i : ℕ) (line : LineOf l c q i) where
   unfolding module_of
   sender_low d = ⊎_elim (λ h. h) (λ e. absurd (d e)) slot_laid.sender
 
-  -- the line of the processor received from, and another slot's
+  -- the line of the processor received from
   pub sender_line : (x : ℕ) → x ≡ (module_of l).sender q i → (x ≡ no_sender → ⊥) → LineOf l c x i
   sender_line x from some =
       record { laid = line.laid; processor = rw from (sender_low (λ e. some (from ∙ e))); slot = line.slot }
-
-  pub line_beside : (k : ℕ) → k < c → LineOf l c q k
-  line_beside k low = record { laid = line.laid; processor = line.processor; slot = low }
 
   -- a location is below 256, and so is the processor received from, 99 or below 16: each fits in a byte
   pub pair_small : (j : ℕ) → j < 5 → mod_field l (mod_index l q i) (4 + 2 * j) < 256

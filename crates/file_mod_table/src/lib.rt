@@ -11,6 +11,9 @@ ghost use Rattle.file_mod_table.specs.Sender.{sender_of};
 use file_mod_lines::{Line, Place, Shape};
 use instruction::Operand;
 
+// The number of no processor, as the file writes it: readers get an Option.
+const NO_SENDER: u16 = 99;
+
 // MOD, P and C, where every line is right by itself.
 #[derive(Clone, Copy)]
 pub struct ModTable<'a> {
@@ -85,7 +88,7 @@ impl<'a> ModTable<'a> {
         ensures within { IfSome result (λ q. q < self.now.shape.processors) }
     {
         let sender = self.column_at(place, 13);
-        if sender == 99 { None } else { Some(sender) }
+        if sender == NO_SENDER { None } else { Some(sender) }
     }
 
     // What operand j of the line names.

@@ -16,14 +16,14 @@ local_value-requires c = tested_within _ _ _ (sym c.has.ensures ∙ c.if-not-has
 pub sent_value-requires : goal.sent_value-requires
 sent_value-requires c = tested_within _ _ _ (sym c.has.ensures ∙ c.if-not-has.false)
 
-pub returns-then-part-eq0 : goal.returns-then-part-eq0
-returns-then-part-eq0 c =
-    told_local _ (value_in c.args.self.now.values.now) c.requires (has_place c.args.self.now.table.now.laid.sized _ _ c.has.ensures ∙ c.if-not-has.false) c.if-part-eq0.true _ c.local_value.ensures
+pub returns-then-part-eq-LOCAL_EARLIER : goal.returns-then-part-eq-LOCAL_EARLIER
+returns-then-part-eq-LOCAL_EARLIER c =
+    told_local _ (value_in c.args.self.now.values.now) c.requires (has_place c.args.self.now.table.now.laid.sized _ _ c.has.ensures ∙ c.if-not-has.false) c.if-part-eq-LOCAL_EARLIER.true _ c.local_value.ensures
 
-pub returns-then-part-eq2 : goal.returns-then-part-eq2
-returns-then-part-eq2 c =
-    told_sent _ (value_in c.args.self.now.values.now) c.requires (has_place c.args.self.now.table.now.laid.sized _ _ c.has.ensures ∙ c.if-not-has.false) c.then-part-eq2.either _ c.sent_value.ensures
+pub returns-then-part-eq-SWITCH_EARLIER : goal.returns-then-part-eq-SWITCH_EARLIER
+returns-then-part-eq-SWITCH_EARLIER c =
+    told_sent _ (value_in c.args.self.now.values.now) c.requires (has_place c.args.self.now.table.now.laid.sized _ _ c.has.ensures ∙ c.if-not-has.false) c.then-part-eq-SWITCH_EARLIER.either _ c.sent_value.ensures
 
 pub returns : goal.returns
 returns c =
-    told_other _ (value_in c.args.self.now.values.now) c.requires (has_place c.args.self.now.table.now.laid.sized _ _ c.has.ensures ∙ c.if-not-has.false) c.if-part-eq0.false c.if-part-eq2.false c.if-part-eq3.false
+    told_other _ (value_in c.args.self.now.values.now) c.requires (has_place c.args.self.now.table.now.laid.sized _ _ c.has.ensures ∙ c.if-not-has.false) c.if-part-eq-LOCAL_EARLIER.false c.if-part-eq-SWITCH_EARLIER.false c.if-part-eq-SWITCH_PRESENT.false

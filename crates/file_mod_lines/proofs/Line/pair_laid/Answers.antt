@@ -4,13 +4,13 @@ use Rattle.file_mod_lines.proofs.Judged.{pair_far, pair_none, pair_part}
 use borrow.Author.Tests.{le-ltb}
 use Rattle.file_mod_lines.proofs.Line.pair_laid.Goals as goal
 
-pub returns-then-part-eq9 : goal.returns-then-part-eq9
-returns-then-part-eq9 c =
-    rw (← c.number-part.ensures, ← c.number-location.ensures) (sym (pair_none _ c.args.most _ _ c.if-location-slots.true c.if-part-eq9.true))
+pub returns-then-part-eq-NO_PART : goal.returns-then-part-eq-NO_PART
+returns-then-part-eq-NO_PART c =
+    rw (← c.number-part.ensures, ← c.number-location.ensures) (sym (pair_none _ c.args.most _ _ c.if-location-slots.true c.if-part-eq-NO_PART.true))
 
-pub returns-else-part-eq9 : goal.returns-else-part-eq9
-returns-else-part-eq9 c =
-    rw (← c.number-part.ensures, ← c.number-location.ensures) (sym (pair_part _ c.args.most _ _ c.if-location-slots.true c.if-part-eq9.false))
+pub returns-else-part-eq-NO_PART : goal.returns-else-part-eq-NO_PART
+returns-else-part-eq-NO_PART c =
+    rw (← c.number-part.ensures, ← c.number-location.ensures) (sym (pair_part _ c.args.most _ _ c.if-location-slots.true c.if-part-eq-NO_PART.false))
 
 pub returns-else-location-slots : goal.returns-else-location-slots
 returns-else-location-slots c =
