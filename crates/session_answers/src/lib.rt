@@ -11,6 +11,7 @@ ghost use Rattle.session_answers.specs.Answers.{call_answer, answer_bits, check_
 
 use clock::Cycle;
 use file_lines::Refusal;
+use std::array::TryFromSliceError;
 
 // The refusals of the session's calls (01, Refusals): 40, 44, 41, 42 and 43, with what they return.
 #[derive(Clone, Copy)]
@@ -35,6 +36,17 @@ impl Refusal for CallRefusal {
             CallRefusal::NoSuchValue(given) => (42, given),
             CallRefusal::TooManyCycles(finished) => (43, u32::from(finished.0)),
         }
+    }
+}
+
+// A buffer lent with another length than its fixed one.
+impl From<TryFromSliceError> for CallRefusal {
+    ghost use Rattle.session_answers.specs.declared.CallRefusal.TheVariants.{WrongLength};
+
+    ghost from_gives = { λ _ refusal. refusal ≡ WrongLength };
+
+    fn from(_error: TryFromSliceError) -> CallRefusal {
+        CallRefusal::WrongLength
     }
 }
 

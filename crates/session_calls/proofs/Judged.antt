@@ -6,7 +6,7 @@ use lib.ListN.{length}
 use Rattle.std.specs.Prelude.{Result, Ok, Err}
 use Rattle.model.specs.Refusal.{first, unless}
 use Rattle.model.specs.Session.{same_lengths}
-use Rattle.model.proofs.Refusals.{first_left, first_right, unless_true}
+use Rattle.model.proofs.Refusals.{first_left, first_right, first_stays, unless_true}
 use Rattle.buffers_memory.specs.Memory.{MemoryBytes}
 use Rattle.buffers_tables.specs.Panel.{panel_length, signals_in, processor_in}
 use Rattle.buffers_lengths.specs.Lengths.{fixed, Sizes as SizesOf}
@@ -16,7 +16,14 @@ use Rattle.buffers_range.proofs.Ranged.{head_ranged_lem, ranged_tables, ranged_m
 use Rattle.buffers_tables.specs.Tables.{Tables}
 use Rattle.machine_run.specs.Running.{Watching}
 use Rattle.session_state.specs.Header.{head_in}
+use mathlib.Core.List.{List}
+use Rattle.std.specs.Prelude.{Option, Some}
+use Rattle.std.specs.Array.{IsWholeChunk}
+use Rattle.std.specs.Option.{MatchOption}
+use Rattle.std.proofs.lemmas.Option.{MatchOption-at_some}
+use Rattle.std.specs.Result.{IsErrAnd}
 use Rattle.file_lines.specs.Answer.{Answers}
+use Rattle.session_answers.proofs.Calls.{exit_told, unless_fails}
 use Rattle.file_lines.proofs.Stages.{refused, accepted, passes}
 use Rattle.session_answers.specs.declared.CallRefusal.{CallRefusal}
 use Rattle.session_answers.specs.declared.CallRefusal.TheVariants.{WrongLength, OutOfRange}
@@ -39,17 +46,18 @@ module _ (b : Buffers) where
   pub same_lengths_lem : Sizes b → same_lengths (lengths_of b) fixed ≡ true
   same_lengths_lem h = sizes_same _ _ _ h
 
-  pub wrong_length : same_lengths (lengths_of b) fixed ≡ false → Judges b (Err WrongLength)
-  unfolding ready_check first unless
-  wrong_length e = refused refl (rw e)
+  pub wrong_length : (Sizes b → ⊥) → {r : Result (Unit {0}) CallRefusal} → IsErrAnd r (λ x. x ≡ WrongLength) → Judges b r
+  unfolding ready_check
+  wrong_length d {r} exit =
+      refused (exit_told call_refusal r exit) (first_stays _ _ (unless_fails _ 40 0 (λ e. d (same_sizes _ _ _ e))))
 
-  pub out_of_range : same_lengths (lengths_of b) fixed ≡ true → in_range b ≡ false → Judges b (Err OutOfRange)
+  pub out_of_range : Sizes b → in_range b ≡ false → Judges b (Err OutOfRange)
   unfolding ready_check first unless
-  out_of_range l e = refused refl (rw (l, e))
+  out_of_range l e = refused refl (rw (same_lengths_lem l, e))
 
-  pub in_range_lem : same_lengths (lengths_of b) fixed ≡ true → in_range b ≡ true → Judges b (Ok (tt {0}))
+  pub in_range_lem : Sizes b → in_range b ≡ true → Judges b (Ok (tt {0}))
   unfolding ready_check first unless
-  in_range_lem l e = accepted refl (rw (l, e))
+  in_range_lem l e = accepted refl (rw (same_lengths_lem l, e))
 
 -- what the code goes by where it judged them right
 module _ (b : Buffers) (r : Result (Unit {0}) CallRefusal) (judged : Judges b r) {x : Unit {0}} (e : r ≡ Ok x) where
@@ -80,3 +88,8 @@ module _ (b : Buffers) (r : Result (Unit {0}) CallRefusal) (judged : Judges b r)
 
   pub right_watching : Watching b.panel (head_in b.panel).watch
   right_watching = ranged_watching b.panel b.program b.memory right_both.1
+
+-- an array of a slice's length is the slice
+pub array_is : {A : Type 0} (P : Type 0) {bytes : List ℕ} (n : ℕ) {o : Option A} {x : A} (now : A → List ℕ) → MatchOption o P (λ y. IsWholeChunk bytes (now y) n) → o ≡ Some x
+    → now x ≡ bytes
+array_is P n now cases is = (MatchOption-at_some _ _ _ is cases).same

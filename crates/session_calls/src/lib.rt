@@ -5,7 +5,7 @@
 ghost use Rattle.std.specs.Prelude.{◌≡◌, List, ℕ, ◌≤◌, ◌<◌, length};
 ghost use Rattle.model.specs.Session.{set as setting, watch as watching, read as reading, run as running};
 ghost use Rattle.buffers_memory.specs.Memory.{with_memory, MemoryBytes};
-ghost use Rattle.buffers_tables.specs.Panel.{panel_length, signals_in, processor_in, processors_in, slots_in};
+ghost use Rattle.buffers_tables.specs.Panel.{signals_in, processor_in, processors_in, slots_in};
 ghost use Rattle.buffers_tables.specs.Tables.{Tables};
 ghost use Rattle.machine_run.specs.Running.{Watching};
 ghost use Rattle.file_lines.specs.Answer.{Answers};
@@ -17,6 +17,8 @@ ghost use Rattle.session_state.specs.Commands.{commanded};
 ghost use Rattle.session_calls.specs.Reply.{buffers_of, ready_check, reply};
 ghost use Rattle.session_calls.specs.Writes.{Writes};
 
+use buffers_memory::Memory;
+use buffers_tables::{Panel, Program};
 use gates::TruthTables;
 use session_answers::CallRefusal;
 use session_state::Told;
@@ -25,9 +27,9 @@ use session_state::Told;
 fn readiness(panel: &[u8], program: &[u8], memory: &[u8]) -> Result<(), CallRefusal>
     ensures { Answers call_refusal (tt {0}) (ready_check (buffers_of panel.now program.now memory.now)) result }
 {
-    if !buffers_lengths::lengths_right(panel, program, memory) {
-        return Err(CallRefusal::WrongLength);
-    }
+    let panel: &Panel = panel.try_into()?;
+    let program: &Program = program.try_into()?;
+    let memory: &Memory = memory.try_into()?;
     if !buffers_range::in_range(panel, program, memory) {
         return Err(CallRefusal::OutOfRange);
     }
@@ -35,8 +37,7 @@ fn readiness(panel: &[u8], program: &[u8], memory: &[u8]) -> Result<(), CallRefu
 }
 
 // The session that a command hands back, written into the panel, and its answer for C.
-fn tell(told: Told, panel: &mut [u8]) -> u64
-    requires { length panel.old ≡ panel_length }
+fn tell(told: Told, panel: &mut Panel) -> u64
     ensures value { result ≡ answer_bits (call_answer told.answer) }
     ensures panel_after { panel.new ≡ with_head (head_of told.session panel.old) panel.old }
 {
@@ -45,8 +46,8 @@ fn tell(told: Told, panel: &mut [u8]) -> u64
 }
 
 // A setting, on buffers in range.
-fn set_in(panel: &mut [u8], signal: u32, value: u32) -> u64
-    requires { (length panel.old ≡ panel_length) × (signals_in panel.old ≤ 4096) }
+fn set_in(panel: &mut Panel, signal: u32, value: u32) -> u64
+    requires { signals_in panel.old ≤ 4096 }
     ensures { (program memory : List ℕ) → Writes (commanded panel.old program memory (head_in panel.old) (setting signal value)) panel.old result panel.new }
 {
     tell(
@@ -56,8 +57,8 @@ fn set_in(panel: &mut [u8], signal: u32, value: u32) -> u64
 }
 
 // A watch, on buffers in range.
-fn watch_in(panel: &mut [u8], signal: u32, mask: u32) -> u64
-    requires { (length panel.old ≡ panel_length) × (signals_in panel.old ≤ 4096) }
+fn watch_in(panel: &mut Panel, signal: u32, mask: u32) -> u64
+    requires { signals_in panel.old ≤ 4096 }
     ensures { (program memory : List ℕ) → Writes (commanded panel.old program memory (head_in panel.old) (watching signal mask)) panel.old result panel.new }
 {
     tell(
@@ -67,9 +68,9 @@ fn watch_in(panel: &mut [u8], signal: u32, mask: u32) -> u64
 }
 
 // A read, on buffers in range. The session that it hands back is the old one, and nothing is written.
-fn read_in(panel: &[u8], memory: &[u8], signal: u32) -> u64
-    requires panel_len { (length panel.now ≡ panel_length) × (signals_in panel.now ≤ 4096) }
-    requires by_index { (s : ℕ) → 1 ≤ s → s ≤ signals_in panel.now → processor_in panel.now s < 16 }
+fn read_in(panel: &Panel, memory: &Memory, signal: u32) -> u64
+    requires signals_high { signals_in panel.now ≤ 4096 }
+    requires processors_low { (s : ℕ) → 1 ≤ s → s ≤ signals_in panel.now → processor_in panel.now s < 16 }
     requires memory_bytes { MemoryBytes memory.now }
     ensures { (program : List ℕ) → Writes (commanded panel.now program memory.now (head_in panel.now) (reading signal)) panel.now result panel.now }
 {
@@ -78,7 +79,7 @@ fn read_in(panel: &[u8], memory: &[u8], signal: u32) -> u64
 }
 
 // A run, on buffers in range. The tables of the gates are made once for all its cycles.
-fn run_in(panel: &mut [u8], program: &[u8], memory: &mut [u8], cycles: u32) -> u64
+fn run_in(panel: &mut Panel, program: &Program, memory: &mut Memory, cycles: u32) -> u64
     requires tables { Tables panel.old program.now }
     requires watching { Watching panel.old (head_in panel.old).watch }
     requires memory_bytes { MemoryBytes memory.old }
@@ -99,7 +100,7 @@ pub fn set(panel: &mut [u8], program: &[u8], memory: &[u8], signal: u32, value: 
 {
     match readiness(panel, program, memory) {
         Err(refusal) => session_answers::answer_bits(Err(refusal)),
-        Ok(()) => set_in(panel, signal, value),
+        Ok(()) => set_in(panel.as_mut_array().unwrap(), signal, value),
     }
 }
 
@@ -110,7 +111,7 @@ pub fn watch(panel: &mut [u8], program: &[u8], memory: &[u8], signal: u32, mask:
 {
     match readiness(panel, program, memory) {
         Err(refusal) => session_answers::answer_bits(Err(refusal)),
-        Ok(()) => watch_in(panel, signal, mask),
+        Ok(()) => watch_in(panel.as_mut_array().unwrap(), signal, mask),
     }
 }
 
@@ -121,7 +122,11 @@ pub fn read(panel: &[u8], program: &[u8], memory: &[u8], signal: u32) -> u64
 {
     match readiness(panel, program, memory) {
         Err(refusal) => session_answers::answer_bits(Err(refusal)),
-        Ok(()) => read_in(panel, memory, signal),
+        Ok(()) => read_in(
+            panel.as_array().unwrap(),
+            memory.as_array().unwrap(),
+            signal,
+        ),
     }
 }
 
@@ -132,6 +137,11 @@ pub fn run(panel: &mut [u8], program: &[u8], memory: &mut [u8], cycles: u32) -> 
 {
     match readiness(panel, program, memory) {
         Err(refusal) => session_answers::answer_bits(Err(refusal)),
-        Ok(()) => run_in(panel, program, memory, cycles),
+        Ok(()) => run_in(
+            panel.as_mut_array().unwrap(),
+            program.as_array().unwrap(),
+            memory.as_mut_array().unwrap(),
+            cycles,
+        ),
     }
 }

@@ -1,16 +1,33 @@
 -- `read`: the buffers are judged, and each case is that of the reply.
-use Rattle.session_calls.proofs.Judged.{right_panel, right_processor, right_memory}
+use mathlib.Core.Path.{◌≡◌}
+use Rattle.session_calls.proofs.Judged.{right_sizes, right_panel, right_processor, right_memory, array_is}
 use Rattle.session_calls.proofs.Replies.{replies_refused, replies, read_state}
 use Rattle.session_calls.proofs.read.Goals as goal
+use Rattle.session_calls.proofs.read.Goals.{After-unwrap-in-Ok}
 
-pub read_in-requires-clause-panel_len : goal.read_in-requires-clause-panel_len
-read_in-requires-clause-panel_len c = right_panel _ _ c.readiness.ensures c.in-Ok.is
+pub unwrap-requires : goal.unwrap-requires
+unwrap-requires c = c.as_array.ensures.variant.1 (right_sizes _ _ c.readiness.ensures c.in-Ok.is).panel_size
 
-pub read_in-requires-clause-by_index : goal.read_in-requires-clause-by_index
-read_in-requires-clause-by_index c = right_processor _ _ c.readiness.ensures c.in-Ok.is
+pub unwrap-requires-in-Ok : goal.unwrap-requires-in-Ok
+unwrap-requires-in-Ok c = c.as_array-in-Ok.ensures.variant.1 (right_sizes _ _ c.readiness.ensures c.in-Ok.is).memory_size
+
+panel_is : (c : After-unwrap-in-Ok) → c.unwrap.result.now ≡ c.args.panel.now
+panel_is c = array_is _ _ (λ y. y.now) c.as_array.ensures.cases c.unwrap.ensures
+
+memory_is : (c : After-unwrap-in-Ok) → c.unwrap-in-Ok.result.now ≡ c.args.memory.now
+memory_is c = array_is _ _ (λ y. y.now) c.as_array-in-Ok.ensures.cases c.unwrap-in-Ok.ensures
+
+pub read_in-requires-clause-signals_high : goal.read_in-requires-clause-signals_high
+read_in-requires-clause-signals_high c =
+    rw (panel_is (goal.at.read_in-requires-clause-signals_high c).After-unwrap-in-Ok) (right_panel _ _ c.readiness.ensures c.in-Ok.is).1
+
+pub read_in-requires-clause-processors_low : goal.read_in-requires-clause-processors_low
+read_in-requires-clause-processors_low c =
+    rw (panel_is (goal.at.read_in-requires-clause-processors_low c).After-unwrap-in-Ok) (right_processor _ _ c.readiness.ensures c.in-Ok.is)
 
 pub read_in-requires-clause-memory_bytes : goal.read_in-requires-clause-memory_bytes
-read_in-requires-clause-memory_bytes c = right_memory _ _ c.readiness.ensures c.in-Ok.is
+read_in-requires-clause-memory_bytes c =
+    rw (memory_is (goal.at.read_in-requires-clause-memory_bytes c).After-unwrap-in-Ok) (right_memory _ _ c.readiness.ensures c.in-Ok.is)
 
 pub returns-in-Err : goal.returns-in-Err
 returns-in-Err c =
@@ -19,5 +36,7 @@ returns-in-Err c =
 
 pub returns-in-Ok : goal.returns-in-Ok
 returns-in-Ok c =
-    let both = replies _ _ _ c.readiness.ensures c.in-Ok.is _ _ (c.read_in.ensures _) (read_state _ _ _ _ _) in
+    let at = (goal.at.returns-in-Ok c).After-unwrap-in-Ok in
+    let written = rw (panel_is at, memory_is at) at (c.read_in.ensures c.args.program.now) in
+    let both = replies _ _ _ c.readiness.ensures c.in-Ok.is _ _ written (read_state _ _ _ _ _) in
     record { answer = both.0; left = both.1 }

@@ -1,23 +1,38 @@
 -- `readiness`: the lengths, then the ranges.
-use Rattle.logic.proofs.Judged.{fails, passes}
-use Rattle.buffers_lengths.proofs.Sizes.{same_sizes}
-use Rattle.session_calls.proofs.Judged.{wrong_length, out_of_range, in_range_lem}
-use mathlib.Core.Path.{ap}
-use mathlib.Core.Bool.{not}
+use mathlib.Core.Path.{◌≡◌, sym, ◌∙◌}
+use Rattle.session_calls.specs.Reply.{buffers_of}
+use Rattle.buffers_range.specs.Ranges.{ranged}
+use Rattle.session_calls.proofs.Judged.{Sizes, wrong_length, out_of_range, in_range_lem}
 use Rattle.session_calls.proofs.readiness.Goals as goal
+use Rattle.session_calls.proofs.readiness.Goals.{After-in_range}
 
-pub returns-then-not-lengths_right : goal.returns-then-not-lengths_right
-returns-then-not-lengths_right c = wrong_length _ (fails _ _ c.lengths_right.ensures (ap not c.if-not-lengths_right.true))
+pub returns-in_err-panel : goal.returns-in_err-panel
+returns-in_err-panel c = wrong_length _ (λ s. c.in_err-panel.ensures.1 s.panel_size) c.from_residual.ensures.1
 
-pub in_range-requires : goal.in_range-requires
-in_range-requires c =
-    let sizes = same_sizes _ _ _ (passes _ _ c.lengths_right.ensures (ap not c.if-not-lengths_right.false)) in
-    (sizes.panel_size, sizes.program_size, sizes.memory_size)
+pub returns-in_err-program : goal.returns-in_err-program
+returns-in_err-program c = wrong_length _ (λ s. c.in_err-program.ensures.1 s.program_size) c.from_residual-in_err-program.ensures.1
+
+pub returns-in_err-memory : goal.returns-in_err-memory
+returns-in_err-memory c = wrong_length _ (λ s. c.in_err-memory.ensures.1 s.memory_size) c.from_residual-in_err-memory.ensures.1
+
+-- the lengths are right, and the arrays are what was lent
+sizes : (c : After-in_range) → Sizes (buffers_of c.args.panel.now c.args.program.now c.args.memory.now)
+sizes c =
+    record {
+      panel_size = c.in_ok-panel.ensures.1.long;
+      program_size = c.in_ok-program.ensures.1.long;
+      memory_size = c.in_ok-memory.ensures.1.long;
+    }
+
+judged : (c : After-in_range) → c.in_range.result ≡ ranged c.args.panel.now c.args.program.now c.args.memory.now
+judged c = rw (← c.in_ok-panel.ensures.1.same, ← c.in_ok-program.ensures.1.same, ← c.in_ok-memory.ensures.1.same) c.in_range.ensures
 
 pub returns-then-not-in_range : goal.returns-then-not-in_range
 returns-then-not-in_range c =
-    out_of_range _ (passes _ _ c.lengths_right.ensures (ap not c.if-not-lengths_right.false)) (fails _ _ c.in_range.ensures (ap not c.if-not-in_range.true))
+    let at = (goal.at.returns-then-not-in_range c).After-in_range in
+    out_of_range _ (sizes at) (sym (judged at) ∙ c.if-not-in_range.true)
 
 pub returns : goal.returns
 returns c =
-    in_range_lem _ (passes _ _ c.lengths_right.ensures (ap not c.if-not-lengths_right.false)) (passes _ _ c.in_range.ensures (ap not c.if-not-in_range.false))
+    let at = (goal.at.returns c).After-in_range in
+    in_range_lem _ (sizes at) (sym (judged at) ∙ c.if-not-in_range.false)

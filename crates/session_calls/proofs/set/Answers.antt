@@ -1,10 +1,18 @@
 -- `set`: the buffers are judged, and each case is that of the reply.
-use Rattle.session_calls.proofs.Judged.{right_panel}
+use mathlib.Core.Path.{◌≡◌}
+use Rattle.session_calls.proofs.Judged.{right_sizes, right_panel, array_is}
 use Rattle.session_calls.proofs.Replies.{replies_refused, replies, set_state}
 use Rattle.session_calls.proofs.set.Goals as goal
+use Rattle.session_calls.proofs.set.Goals.{After-unwrap}
+
+pub unwrap-requires : goal.unwrap-requires
+unwrap-requires c = c.as_mut_array.ensures.variant.1 (right_sizes _ _ c.readiness.ensures c.in-Ok.is).panel_size
+
+whole : (c : After-unwrap) → c.unwrap.result.now ≡ c.args.panel.now
+whole c = array_is _ _ (λ y. y.now) c.as_mut_array.ensures.cases c.unwrap.ensures
 
 pub set_in-requires : goal.set_in-requires
-set_in-requires c = right_panel _ _ c.readiness.ensures c.in-Ok.is
+set_in-requires c = rw (whole (goal.at.set_in-requires c).After-unwrap) (right_panel _ _ c.readiness.ensures c.in-Ok.is).1
 
 pub returns-in-Err : goal.returns-in-Err
 returns-in-Err c =
@@ -13,5 +21,6 @@ returns-in-Err c =
 
 pub returns-in-Ok : goal.returns-in-Ok
 returns-in-Ok c =
-    let both = replies _ _ _ c.readiness.ensures c.in-Ok.is _ _ (c.set_in.ensures _ _) (set_state _ _ _ _ _ _) in
+    let written = rw (whole (goal.at.returns-in-Ok c).After-unwrap) at (c.set_in.ensures c.args.program.now c.args.memory.now) in
+    let both = replies _ _ _ c.readiness.ensures c.in-Ok.is _ _ written (set_state _ _ _ _ _ _) in
     record { answer = both.0; left = both.1 }
