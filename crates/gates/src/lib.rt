@@ -25,6 +25,7 @@ pub struct Gate {
 }
 
 // The code of a function that is supplied.
+#[tactic(auto, unfolding(crate::specs::Function::is_function))]
 pub fn is_function(code: u16) -> bool
     ensures { result ≡ is_function code }
 {
@@ -32,6 +33,7 @@ pub fn is_function(code: u16) -> bool
 }
 
 // The code of a translation that is supplied.
+#[tactic(auto, unfolding(crate::specs::Translation::is_translation))]
 pub fn is_translation(code: u16) -> bool
     ensures { result ≡ is_translation code }
 {
@@ -39,6 +41,7 @@ pub fn is_translation(code: u16) -> bool
 }
 
 // The code of a translation that gives a constant.
+#[tactic(auto, unfolding(crate::specs::Translation::is_constant))]
 pub fn is_constant(code: u16) -> bool
     ensures { result ≡ is_constant code }
 {

@@ -51,6 +51,7 @@ fn run_cycle(machine: &Machine, memory: &mut Memory)
 }
 
 // The mask has the bit of a value: "bit v of weight 2^v for value v".
+#[tactic(auto, unfolding(model::specs::Session::watched))]
 fn shows(mask: u8, value: u8) -> bool
     requires { Code value }
     ensures { result ≡ watched mask value }
