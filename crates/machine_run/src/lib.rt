@@ -2,12 +2,12 @@
 
 #![tactic(auto)]
 
-ghost use Rattle.std.specs.Prelude.{◌≡◌, ◌<◌, ◌≤◌, length};
+ghost use Rattle.std.specs.Prelude.{◌≡◌, ◌<◌, ◌≤◌};
 ghost use Rattle.gates.specs.Value.{Code};
 ghost use Rattle.model.specs.Machine.{slots as slots_done};
 ghost use Rattle.model.specs.Session.{watched};
 ghost use Rattle.buffers_memory.specs.Memory.{memory_of, with_memory, MemoryBytes};
-ghost use Rattle.buffers_tables.specs.Panel.{panel_length, processors_in, slots_in, processor_in, slot_in};
+ghost use Rattle.buffers_tables.specs.Panel.{processors_in, slots_in, processor_in, slot_in};
 ghost use Rattle.machine_slot.specs.Held.{network_of, module_of, hands_of};
 ghost use Rattle.machine_run.specs.Running.{cycle_in, watch_of, run_in, Watching};
 

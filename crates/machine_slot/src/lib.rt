@@ -2,11 +2,11 @@
 
 #![tactic(auto)]
 
-ghost use Rattle.std.specs.Prelude.{◌≡◌, ◌<◌, ◌≤◌, not, eqb, length, IfSome};
+ghost use Rattle.std.specs.Prelude.{◌≡◌, ◌<◌, ◌≤◌, not, eqb, IfSome};
 ghost use Rattle.gates.specs.Legal.{Legal};
 ghost use Rattle.model.specs.Module.{local_present, switch_present};
 ghost use Rattle.model.specs.Machine.{sent as sent_by, slot as slot_done};
-ghost use Rattle.buffers_memory.specs.Memory.{memory_length, memory_of, place, with_memory, written, here, MemoryBytes};
+ghost use Rattle.buffers_memory.specs.Memory.{memory_of, place, with_memory, written, here, MemoryBytes};
 ghost use Rattle.buffers_tables.specs.Panel.{processors_in, slots_in, codes_in};
 ghost use Rattle.buffers_tables.specs.Program.{instruction_in};
 ghost use Rattle.buffers_tables.specs.Tables.{Tables};
@@ -70,7 +70,7 @@ impl<'a> Machine<'a> {
     // "Its gate's result, or its input's value for cycle t", which is the value in hand. An empty slot is not evaluated. The line is
     // decoded behind the tests: what is decoded before them has to be kept over them.
     fn evaluate(&self, memory: &Memory, processor: usize, slot: Slot) -> u8
-        requires place { (processor < processors_in self.now.panel.now) × (slot.0 < slots_in self.now.panel.now) }
+        requires placed { (processor < processors_in self.now.panel.now) × (slot.0 < slots_in self.now.panel.now) }
         requires memory_bytes { MemoryBytes memory.now }
         ensures { result ≡ evaluated_on self.now.panel.now (memory_of memory.now) processor (instruction_in self.now.program.now processor slot.0) }
     {
@@ -109,7 +109,7 @@ impl<'a> Machine<'a> {
         sent: &[u8; 16],
         memory: &mut Memory,
     )
-        requires place { (processor < processors_in self.now.panel.now) × (slot.0 < slots_in self.now.panel.now) }
+        requires placed { (processor < processors_in self.now.panel.now) × (slot.0 < slots_in self.now.panel.now) }
         ensures { memory.new ≡ written (here processor slot.0) (storing (module_of self.now) slot.0 results.now sent.now (memory_of memory.old)) memory.old }
     {
         let line = buffers_tables::instruction_in(self.program, processor, slot);
@@ -159,7 +159,7 @@ fn store_received(
     sent: &[u8; 16],
     memory: &mut Memory,
 )
-    requires memory_size { (processor < 16) × (slot.0 < 256) }
+    requires placed { (processor < 16) × (slot.0 < 256) }
     requires sender_bound { IfSome sender (λ q. q < 16) }
     ensures { memory.new ≡ received_stored sender sent.now memory.old (place processor switch_present slot.0) }
 {

@@ -13,7 +13,7 @@ returns-then-signal-eq0 c = rw (← (c.from-signal.ensures ∙ c.signal_in.ensur
 
 pub kind-requires : goal.kind-requires
 kind-requires c =
-    rw (c.from-signal.ensures ∙ c.signal_in.ensures) (line_signal c.args.self.now.in_range c.requires.place.0 c.requires.place.1)
+    rw (c.from-signal.ensures ∙ c.signal_in.ensures) (line_signal c.args.self.now.in_range c.requires.placed.0 c.requires.placed.1)
 
 pub returns-then-kind-eq1 : goal.returns-then-kind-eq1
 unfolding evaluated_on
@@ -27,12 +27,12 @@ returns-then-kind-eq1 c =
 pub gate_on-requires-clause-line_bound : goal.gate_on-requires-clause-line_bound
 gate_on-requires-clause-line_bound c =
     let machine = c.args.self.now in
-    (omega (arith, machine.in_range.processors_high, c.requires.place.0), rw c.instruction_in-line.ensures (line_signal machine.in_range c.requires.place.0 c.requires.place.1))
+    (omega (arith, machine.in_range.processors_high, c.requires.placed.0), rw c.instruction_in-line.ensures (line_signal machine.in_range c.requires.placed.0 c.requires.placed.1))
 
 pub gate_on-requires-clause-legal : goal.gate_on-requires-clause-legal
 gate_on-requires-clause-legal c =
     rw c.instruction_in-line.ensures
-    (line_codes c.args.self.now.in_range c.requires.place.0 c.requires.place.1 (λ e. c.if-signal-eq0.false ((c.from-signal.ensures ∙ c.signal_in.ensures) ∙ e)))
+    (line_codes c.args.self.now.in_range c.requires.placed.0 c.requires.placed.1 (λ e. c.if-signal-eq0.false ((c.from-signal.ensures ∙ c.signal_in.ensures) ∙ e)))
 
 pub returns : goal.returns
 unfolding evaluated_on

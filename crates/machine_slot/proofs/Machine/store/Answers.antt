@@ -10,12 +10,12 @@ use Rattle.machine_slot.proofs.Machine.store.Goals as goal
 pub store_received-requires-clause-sender_bound : goal.store_received-requires-clause-sender_bound
 store_received-requires-clause-sender_bound c =
     rw c.instruction_in-line.ensures
-    (sender_fits c.args.self.now.in_range c.requires.place.0 c.requires.place.1)
+    (sender_fits c.args.self.now.in_range c.requires.placed.0 c.requires.placed.1)
 
 pub returns : goal.returns
 unfolding module_in
 returns c =
     let machine = c.args.self.now in
     both_stored (module_of machine) _ _ _ c.args.memory.now (omega arith) _
-    (omega (arith, machine.in_range.processors_high, c.requires.place.0)) (omega (arith, machine.in_range.slots_high, c.requires.place.1)) _ _
+    (omega (arith, machine.in_range.processors_high, c.requires.placed.0)) (omega (arith, machine.in_range.slots_high, c.requires.placed.1)) _ _
     (rw c.instruction_in-line.ensures at c.store_result.ensures) (rw (c.instruction_in-line.ensures, received_numbered) at c.store_received.ensures)
