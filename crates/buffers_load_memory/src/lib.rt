@@ -18,6 +18,7 @@ use file_mod_table::ModTable;
 
 // The parts of a processor's memory are numbered by their places in it, as the present ones beside them in buffers_memory.
 const LOCAL_EARLIER: usize = 0;
+
 const SWITCH_EARLIER: usize = 2;
 
 // What the opening memory is made of: MOD, and the signals' time 0 values, with 0 for an empty slot.

@@ -11,7 +11,7 @@ ghost use Rattle.buffers_load_files.specs.Loaded.{place_of, panel_byte, panel_wi
 ghost use Rattle.buffers_load_files.specs.Checked.{value_in};
 ghost use Rattle.buffers_load_panel.specs.Lines.{LineNumbers};
 
-use buffers_tables::{HAND, KIND, PANEL_STRIDE, PROCESSOR, PROCESSORS, SIGNALS, SLOTS, WATCHED};
+use buffers_tables::{HAND, KIND, PANEL_STRIDE, PROCESSOR};
 use file_mod_lines::{Place, Shape};
 use file_mod_table::ModTable;
 
@@ -30,25 +30,11 @@ fn head_byte(signals: usize, shape: Shape, column: usize) -> u8
     requires { (signals ≤ 4096) × (shape.processors ≤ 16) × (shape.slots ≤ 256) × (column < panel_stride) }
     ensures { result ≡ get_or (head_bytes signals shape.processors shape.slots 0 1 0) column 0 }
 {
-    if column == SIGNALS {
-        return (signals % 256) as u8;
-    }
-    if column == SIGNALS + 1 {
-        return (signals / 256) as u8;
-    }
-    if column == PROCESSORS {
-        return shape.processors as u8;
-    }
-    if column == SLOTS {
-        return (shape.slots % 256) as u8;
-    }
-    if column == SLOTS + 1 {
-        return (shape.slots / 256) as u8;
-    }
-    if column == WATCHED {
-        return 1;
-    }
-    0
+    let [n_low, n_high] = (signals as u16).to_le_bytes();
+    let [c_low, c_high] = shape.slots.to_le_bytes();
+    let processors = shape.processors as u8;
+    let bytes = [n_low, n_high, processors, c_low, c_high, 0, 0, 1, 0, 0];
+    bytes[column]
 }
 
 // One of the bytes of a signal: its codes as in NET, its value in hand, the processor and the slot of its line.

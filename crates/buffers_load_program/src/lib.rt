@@ -8,7 +8,7 @@ ghost use Rattle.file_mod_table.specs.Line.{Within};
 ghost use Rattle.buffers_tables.specs.Program.{program_length, line_stride, line_bytes, line_processor, line_slot, line_column};
 ghost use Rattle.buffers_load_files.specs.Loaded.{program_byte, program_from};
 
-use buffers_tables::{LINE_STRIDE, SIGNAL, SLOT_LINES};
+use buffers_tables::{LINE_STRIDE, OPERAND1, SLOT_LINES};
 use clock::Slot;
 use file_mod_lines::Place;
 use file_mod_table::ModTable;
@@ -19,11 +19,8 @@ fn line_byte(table: &ModTable, place: Place, column: usize) -> u8
     requires column_bound { column < line_stride }
     ensures { result ≡ get_or (line_bytes (module_of table.now.modfile.now) place.processor place.slot.0) column 0 }
 {
-    if column == SIGNAL {
-        return (table.signal_at(place) % 256) as u8;
-    }
-    if column == SIGNAL + 1 {
-        return (table.signal_at(place) / 256) as u8;
+    if column < OPERAND1 {
+        return table.signal_at(place).to_le_bytes()[column];
     }
     table.column_at(place, column + 1) as u8
 }

@@ -88,7 +88,11 @@ impl<'a> ModTable<'a> {
         ensures within { IfSome result (λ q. q < self.now.shape.processors) }
     {
         let sender = self.column_at(place, 13);
-        if sender == NO_SENDER { None } else { Some(sender) }
+        if sender == NO_SENDER {
+            None
+        } else {
+            Some(sender)
+        }
     }
 
     // What operand j of the line names.

@@ -6,8 +6,8 @@ use Rattle.buffers_tables.specs.Program.{operands_column}
 use Rattle.buffers_load_program.proofs.Line.{column_small, line_column_lem}
 use Rattle.buffers_load_program.proofs.line_byte.Goals as goal
 
-pub overflow_cast-result-2 : goal.overflow_cast-result-2
-overflow_cast-result-2 c =
+pub overflow_cast-result : goal.overflow_cast-result
+overflow_cast-result c =
     let high : operands_column ≤ c.args.column = omega arith in
     omega (arith, c.column_at.ensures, column_small (line_within c.args.table.now.laid c.requires.within) c.args.column high c.requires.column_bound)
 
