@@ -10,7 +10,7 @@ ghost use Rattle.model.specs.Listing.{joined};
 ghost use Rattle.file_lines.specs.Answer.{Answers};
 ghost use Rattle.session_answers.specs.Answers.{check_bits};
 ghost use Rattle.session_answers.specs.Left.{left_after, Leaves};
-ghost use Rattle.charts.specs.Page.{page_signals, page_cycles, line_bytes, page_length, charted, glyph as glyph_of, last_cycle};
+ghost use Rattle.charts.specs.Page.{page_signals, page_cycles, line_bytes, charted, glyph as glyph_of, last_cycle};
 ghost use Rattle.charts.specs.Text.{spaces, head_text, row_text, chart_row, page_text, printed_on};
 ghost use Rattle.charts.specs.Checks.{counts_check, signals_check, row_check, rows_check, chart_check};
 ghost use Rattle.charts.specs.Answer.{chart_refusal};
@@ -217,8 +217,7 @@ impl<'a> Plot<'a> {
     }
 
     // A line for each chosen signal, behind the first line.
-    fn write_rows(&self, page: &mut [u8])
-        requires { length page.old ≡ page_length }
+    fn write_rows(&self, page: &mut [u8; PAGE_BYTES])
         ensures { page.new ≡ sets page.old line_bytes (joined self.now.count (chart_row self.now.signals.now self.now.values.now self.now.cycles)) }
     {
         let signals = self.signals;
@@ -229,8 +228,7 @@ impl<'a> Plot<'a> {
     }
 
     // The whole text of a page.
-    fn write_page(&self, page: &mut [u8])
-        requires { length page.old ≡ page_length }
+    fn write_page(&self, page: &mut [u8; PAGE_BYTES])
         ensures { page.new ≡ printed_on page.old (page_text self.now.signals.now self.now.values.now self.now.count self.now.first.0 self.now.cycles) }
     {
         let last = Cycle(self.first.0 + ((self.cycles - 1) as u16));
@@ -252,10 +250,10 @@ fn chart_checked(
 {
     let signals: &[u8; SIGNALS_BYTES] = signals.try_into()?;
     let values: &[u8; VALUES_BYTES] = values.try_into()?;
-    // The buffer that is written stays a slice: no contract of the library says that a `try_into` to a `&mut` array leaves its bytes.
-    if page.len() != PAGE_BYTES {
+    // `as_mut_array` says, as `try_into` does not, what the slice holds in the end.
+    let Some(page) = page.as_mut_array() else {
         return Err(ChartRefusal::WrongLength);
-    }
+    };
     check_counts(count, first, cycles)?;
     let plot = Plot {
         signals,

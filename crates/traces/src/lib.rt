@@ -101,14 +101,14 @@ fn turned_half(values: &[u8; VALUES_BYTES], count: usize, half: usize) -> u64
 }
 
 // The block of the values within the count.
-fn turn_all(values: &[u8; VALUES_BYTES], count: usize, block: &mut [u8])
-    requires { (count ≤ most_cycles) × (length block.old ≡ block_length) }
+fn turn_all(values: &[u8; VALUES_BYTES], count: usize, block: &mut [u8; BLOCK_BYTES])
+    requires { count ≤ most_cycles }
     ensures { block.new ≡ turned values.now count }
 {
     let low = turned_half(values, count, 0);
     let high = turned_half(values, count, 1);
     block[..8].copy_from_slice(&low.to_le_bytes());
-    block[8..BLOCK_BYTES].copy_from_slice(&high.to_le_bytes());
+    block[8..].copy_from_slice(&high.to_le_bytes());
 }
 
 // Turns the values into a block, or refuses and changes no byte of it.
@@ -116,10 +116,10 @@ fn turn_checked(values: &[u8], block: &mut [u8], count: u32) -> Result<(), TurnR
     ensures { Leaves turn_refusal (turn_check values.now block.old count) (turned values.now count) block.old result block.new }
 {
     let values: &[u8; VALUES_BYTES] = values.try_into()?;
-    // The buffer that is written stays a slice: no contract of the library says that a `try_into` to a `&mut` array leaves its bytes.
-    if block.len() != BLOCK_BYTES {
+    // `as_mut_array` says, as `try_into` does not, what the slice holds in the end.
+    let Some(block) = block.as_mut_array() else {
         return Err(TurnRefusal::WrongLength);
-    }
+    };
     let count = cycles_of(count)?;
     session_answers::check_recorded(&values[..count])?;
     turn_all(values, count, block);
@@ -159,8 +159,8 @@ fn check_unused(block: &[u8; BLOCK_BYTES], count: usize) -> Result<(), TurnRefus
 }
 
 // All values of a block: those of the cycles within the count, and 0 past it.
-fn turn_back_all(block: &[u8; BLOCK_BYTES], count: usize, values: &mut [u8])
-    requires { (count ≤ most_cycles) × (length values.old ≡ values_length) }
+fn turn_back_all(block: &[u8; BLOCK_BYTES], count: usize, values: &mut [u8; VALUES_BYTES])
+    requires { count ≤ most_cycles }
     ensures { values.new ≡ turned_back block.now count }
 {
     for cycle in 0..VALUES_BYTES {
@@ -185,9 +185,9 @@ fn turn_back_checked(block: &[u8], values: &mut [u8], count: u32) -> Result<(), 
     ensures { Leaves turn_refusal (turn_back_check block.now values.old count) (turned_back block.now count) values.old result values.new }
 {
     let block: &[u8; BLOCK_BYTES] = block.try_into()?;
-    if values.len() != VALUES_BYTES {
+    let Some(values) = values.as_mut_array() else {
         return Err(TurnRefusal::WrongLength);
-    }
+    };
     let count = cycles_of(count)?;
     check_unused(block, count)?;
     turn_back_all(block, count, values);

@@ -18,7 +18,7 @@ sizes c =
     record {
       signals_size = c.in_ok-signals.ensures.1.long;
       values_size = c.in_ok-values.ensures.1.long;
-      page_size = c.if-page-ne-PAGE_BYTES.false;
+      page_size = c.in-Some.ensures.cases.long;
     }
 
 counted : (c : In_ok-check_counts) → counts_check c.args.count c.args.first c.args.cycles ≡ pass
@@ -40,10 +40,10 @@ returns-in_err-values c =
     c.from_residual-in_err-values.ensures.1
     refl
 
-pub returns-then-page-ne-PAGE_BYTES : goal.returns-then-page-ne-PAGE_BYTES
+pub returns-in_default : goal.returns-in_default
 unfolding chart_check
-returns-then-page-ne-PAGE_BYTES c =
-    leaves_lent (refused refl (first_stays _ _ (lent_wrong _ _ _ (λ s. c.if-page-ne-PAGE_BYTES.true s.page_size)))) refl refl
+returns-in_default c =
+    leaves_lent (refused refl (first_stays _ _ (lent_wrong _ _ _ (λ s. c.in_default.ensures.cases s.page_size)))) refl refl
 
 pub returns-in_err-check_counts : goal.returns-in_err-check_counts
 unfolding chart_check
@@ -52,9 +52,9 @@ returns-in_err-check_counts c =
     record {
       signals_size = c.in_ok-signals.ensures.1.long;
       values_size = c.in_ok-values.ensures.1.long;
-      page_size = c.if-page-ne-PAGE_BYTES.false;
+      page_size = c.in-Some.ensures.cases.long;
     } in
-    leaves_lent (after (lent_pass _ _ _ lent) (stops c.in_err-check_counts.ensures refl _)) c.from_residual-in_err-check_counts.ensures.1 refl
+    leaves_lent (after (lent_pass _ _ _ lent) (stops c.in_err-check_counts.ensures refl _)) c.from_residual-in_err-check_counts.ensures.1 c.in-Some.ensures.cases.same
 
 pub overflow_cast-plot-2 : goal.overflow_cast-plot-2
 overflow_cast-plot-2 c =
@@ -74,7 +74,7 @@ returns-in_err-check_signals c =
     (after (counted at)
     (stops (renamed refl (ap (λ (s : List ℕ). signals_check s c.args.count) c.in_ok-signals.ensures.1.same) c.in_err-check_signals.ensures) refl _)))
     c.from_residual-in_err-check_signals.ensures.1
-    refl
+    c.in-Some.ensures.cases.same
 
 pub returns-in_err-check_values : goal.returns-in_err-check_values
 unfolding chart_check
@@ -87,7 +87,7 @@ returns-in_err-check_values c =
     (after (passes chosen c.in_ok-check_signals.was)
     (renamed refl (ap (λ (v : List ℕ). rows_check v c.args.count c.args.cycles) c.in_ok-values.ensures.1.same) c.in_err-check_values.ensures))))
     c.from_residual-in_err-check_values.ensures.1
-    refl
+    c.in-Some.ensures.cases.same
 
 pub returns : goal.returns
 unfolding chart_check
@@ -101,4 +101,5 @@ returns c =
     (first_both _ _ (lent_pass _ _ _ (sizes at))
     (first_both _ _ (counted at) (first_both _ _ (passes chosen c.in_ok-check_signals.was) (passes recorded c.in_ok-check_values.was))))
     (c.write_page.ensures
+    ∙ ap (λ (x : List ℕ). printed_on x (page_text c.in_ok-signals.signals.now c.in_ok-values.values.now c.args.count c.args.first c.args.cycles)) c.in-Some.ensures.cases.same
     ∙ ap₂ (λ (x y : List ℕ). printed_on c.args.page.now (page_text x y c.args.count c.args.first c.args.cycles)) s v)

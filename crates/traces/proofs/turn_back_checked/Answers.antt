@@ -9,7 +9,7 @@ use Rattle.traces.proofs.turn_back_checked.Goals as goal
 use Rattle.traces.proofs.turn_back_checked.Goals.{In_ok-count}
 
 sized : (c : In_ok-count) → Sizes c.args.values.now c.args.block.now
-sized c = record { values_size = c.if-values-ne-VALUES_BYTES.false; block_size = c.in_ok-block.ensures.1.long }
+sized c = record { values_size = c.in-Some.ensures.cases.long; block_size = c.in_ok-block.ensures.1.long }
 
 cycles : (c : In_ok-count) → c.in_ok-count.count ≡ c.args.count
 cycles c = same c.cycles_of.ensures.answers c.in_ok-count.was
@@ -18,16 +18,16 @@ pub returns-in_err-block : goal.returns-in_err-block
 unfolding turn_back_check
 returns-in_err-block c = leaves_lent (sizes_wrong _ _ _ (λ s. c.in_err-block.ensures.1 s.block_size) _) c.from_residual.ensures.1 refl
 
-pub returns-then-values-ne-VALUES_BYTES : goal.returns-then-values-ne-VALUES_BYTES
+pub returns-in_default : goal.returns-in_default
 unfolding turn_back_check
-returns-then-values-ne-VALUES_BYTES c = leaves_lent (sizes_wrong _ _ _ (λ s. c.if-values-ne-VALUES_BYTES.true s.values_size) _) refl refl
+returns-in_default c = leaves_lent (sizes_wrong _ _ _ (λ s. c.in_default.ensures.cases s.values_size) _) refl refl
 
 pub returns-in_err-count : goal.returns-in_err-count
 unfolding turn_back_check
 returns-in_err-count c =
     let sized : Sizes c.args.values.now c.args.block.now =
-    record { values_size = c.if-values-ne-VALUES_BYTES.false; block_size = c.in_ok-block.ensures.1.long } in
-    leaves_lent (count_stops _ _ _ sized c.in_err-count.ensures.answers refl _) c.from_residual-in_err-count.ensures.1 refl
+    record { values_size = c.in-Some.ensures.cases.long; block_size = c.in_ok-block.ensures.1.long } in
+    leaves_lent (count_stops _ _ _ sized c.in_err-count.ensures.answers refl _) c.from_residual-in_err-count.ensures.1 c.in-Some.ensures.cases.same
 
 pub returns-in_err-check_unused : goal.returns-in_err-check_unused
 unfolding turn_back_check
@@ -37,7 +37,7 @@ returns-in_err-check_unused c =
     (count_passes _ _ _ (sized at) c.cycles_of.ensures.answers c.in_ok-count.was
     (renamed refl (ap₂ unused_check c.in_ok-block.ensures.1.same (cycles at)) c.in_err-check_unused.ensures))
     c.from_residual-in_err-check_unused.ensures.1
-    refl
+    c.in-Some.ensures.cases.same
 
 pub returns : goal.returns
 unfolding turn_back_check

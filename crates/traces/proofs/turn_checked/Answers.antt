@@ -15,7 +15,7 @@ use Rattle.traces.proofs.turn_checked.Goals as goal
 use Rattle.traces.proofs.turn_checked.Goals.{In_ok-count}
 
 sized : (c : In_ok-count) → Sizes c.args.values.now c.args.block.now
-sized c = record { values_size = c.in_ok-values.ensures.1.long; block_size = c.if-block-ne-BLOCK_BYTES.false }
+sized c = record { values_size = c.in_ok-values.ensures.1.long; block_size = c.in-Some.ensures.cases.long }
 
 cycles : (c : In_ok-count) → c.in_ok-count.count ≡ c.args.count
 cycles c = same c.cycles_of.ensures.answers c.in_ok-count.was
@@ -24,16 +24,16 @@ pub returns-in_err-values : goal.returns-in_err-values
 unfolding turn_check
 returns-in_err-values c = leaves_lent (sizes_wrong _ _ _ (λ s. c.in_err-values.ensures.1 s.values_size) _) c.from_residual.ensures.1 refl
 
-pub returns-then-block-ne-BLOCK_BYTES : goal.returns-then-block-ne-BLOCK_BYTES
+pub returns-in_default : goal.returns-in_default
 unfolding turn_check
-returns-then-block-ne-BLOCK_BYTES c = leaves_lent (sizes_wrong _ _ _ (λ s. c.if-block-ne-BLOCK_BYTES.true s.block_size) _) refl refl
+returns-in_default c = leaves_lent (sizes_wrong _ _ _ (λ s. c.in_default.ensures.cases s.block_size) _) refl refl
 
 pub returns-in_err-count : goal.returns-in_err-count
 unfolding turn_check
 returns-in_err-count c =
     let sized : Sizes c.args.values.now c.args.block.now =
-    record { values_size = c.in_ok-values.ensures.1.long; block_size = c.if-block-ne-BLOCK_BYTES.false } in
-    leaves_lent (count_stops _ _ _ sized c.in_err-count.ensures.answers refl _) c.from_residual-in_err-count.ensures.1 refl
+    record { values_size = c.in_ok-values.ensures.1.long; block_size = c.in-Some.ensures.cases.long } in
+    leaves_lent (count_stops _ _ _ sized c.in_err-count.ensures.answers refl _) c.from_residual-in_err-count.ensures.1 c.in-Some.ensures.cases.same
 
 -- the values that are judged
 judged : (c : In_ok-count) → recorded_checks (take c.in_ok-count.count c.in_ok-values.values.now) ≡ values_check c.args.values.now c.args.count
@@ -49,7 +49,7 @@ returns-in_err-check_recorded c =
     (count_passes _ _ _ (sized at) c.cycles_of.ensures.answers c.in_ok-count.was
     (renamed refl (judged at) (told_as refl c.in_err-check_recorded.ensures)))
     c.from_residual-in_err-check_recorded.ensures.1
-    refl
+    c.in-Some.ensures.cases.same
 
 pub returns : goal.returns
 unfolding turn_check

@@ -5,7 +5,7 @@ use Rattle.charts.proofs.Plot.write_page.Goals as goal
 
 pub returns : goal.returns
 returns c =
-    page_stored _ _ _ _ _ c.args.self.now.cycles_high _ _ _ (omega (arith, c.requires, c.args.self.now.count_high)) _
+    page_stored _ _ _ _ _ c.args.self.now.cycles_high _ _ _ (omega (arith, c.told-page, c.args.self.now.count_high)) _
     (omega (arith, c.args.self.now.cycles_low))
     c.write_head.ensures
     c.write_rows.ensures
