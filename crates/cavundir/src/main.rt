@@ -3,71 +3,38 @@
 
 #![tactic(auto)]
 
-ghost use Rattle.std.specs.Prelude.{◌≡◌, false, ◌≤◌, length, take};
-ghost use Rattle.model.specs.Refusal.{pass};
+ghost use Rattle.std.specs.Prelude.{◌≡◌, ◌≤◌, length, take};
 ghost use Rattle.model.specs.Files.{files_of};
-ghost use Rattle.model.specs.Acceptance.{panel_limit, file_check};
-ghost use Rattle.file_checks.specs.Answer.{file_refusal};
-ghost use Rattle.listing_print.specs.Handing.{Handing};
+ghost use Rattle.listing_print.specs.Handing.{bytes_of, unprinted, Handing};
 ghost use Rattle.cavundir.specs.Output.{RunPrints};
 
-use file_checks::FileAnswer;
-use file_mod_lines::ModAnswer;
-use file_net::NetAnswer;
-use file_stim::StimAnswer;
+use file_checks::{check_mod, check_net, check_stim};
+use file_reading::read_file;
+use listing_print::{Printed, ReadFiles, print_listing, print_refusal, zeroed};
+use netlist::Netlist;
 use std::fs::File;
 use std::rt::Files;
 
-// The buffers. A file is read up to one byte more than it may have: such a byte is surplus, whatever follows it.
-fn net_buffer() -> [u8; 299082] {
-    [0; 299082]
-}
-
-fn mod_buffer() -> [u8; 348246] {
-    [0; 348246]
-}
-
-fn stim_buffer() -> [u8; 1245147] {
-    [0; 1245147]
-}
-
 // How many bytes were read of each file.
-#[derive(Drop)]
+#[derive(Clone, Copy)]
 struct Read {
     net: usize,
     modfile: usize,
     stim: usize,
 }
 
-// The refusal of what was read.
-fn refuse(
-    rt: &impl Print,
-    net: &[u8],
-    modfile: &[u8],
-    stim: &[u8],
-    read: Read,
-    answer: FileAnswer,
-    parts: &mut u32,
-    failed: &mut bool,
-) -> Read
-    requires net_in_bounds { (read.net ≤ length net.now) × (read.modfile ≤ length modfile.now) × (read.stim ≤ length stim.now) }
-    requires answer_value { file_refusal answer ≡ file_check panel_limit (files_of (take read.net net.now) (take read.modfile modfile.now) (take read.stim stim.now)) }
-    requires fact { file_refusal answer ≡ pass → ⊥ }
-    requires parts_value { parts.old ≡ 0 }
-    requires failed_value { failed.old ≡ false }
-    ensures given { result ≡ read }
-    ensures handed { Handing (files_of (take result.net net.now) (take result.modfile modfile.now) (take result.stim stim.now)) parts.new failed.new }
-{
-    listing_print::print_refusal(
-        rt,
-        &net[..read.net],
-        &modfile[..read.modfile],
-        &stim[..read.stim],
-        answer,
-        parts,
-        failed,
-    );
-    read
+impl Read {
+    // The bytes that were read, in their buffers.
+    fn of<'a>(&self, net: &'a [u8], modfile: &'a [u8], stim: &'a [u8]) -> ReadFiles<'a>
+        requires within { (self.now.net ≤ length net.now) × (self.now.modfile ≤ length modfile.now) × (self.now.stim ≤ length stim.now) }
+        ensures { bytes_of result ≡ files_of (take self.now.net net.now) (take self.now.modfile modfile.now) (take self.now.stim stim.now) }
+    {
+        ReadFiles {
+            net: &net[..self.net],
+            modfile: &modfile[..self.modfile],
+            stim: &stim[..self.stim],
+        }
+    }
 }
 
 // "Order: NET, MOD, STIM": each is checked before the next is read.
@@ -76,75 +43,46 @@ fn run(
     net: &mut [u8],
     modfile: &mut [u8],
     stim: &mut [u8],
-    parts: &mut u32,
-    failed: &mut bool,
+    printed: &mut Printed,
 ) -> Read
-    requires parts_value { parts.old ≡ 0 }
-    requires failed_value { failed.old ≡ false }
-    ensures handed { Handing (files_of (take result.net net.new) (take result.modfile modfile.new) (take result.stim stim.new)) parts.new failed.new }
-    ensures prints { RunPrints (files_of (take result.net net.new) (take result.modfile modfile.new) (take result.stim stim.new)) parts.new failed.new }
+    requires { printed.old ≡ unprinted }
+    ensures handed { Handing (files_of (take result.net net.new) (take result.modfile modfile.new) (take result.stim stim.new)) printed.new.parts printed.new.failed }
+    ensures prints { RunPrints (files_of (take result.net net.new) (take result.modfile modfile.new) (take result.stim stim.new)) printed.new.parts printed.new.failed }
 {
-    let n = file_reading::read_file(rt, b"NET", net);
-    let first = file_net::check_net(&net[..n], 4096);
-    let NetAnswer::Accepted(_) = first else {
-        let answer = file_checks::net_answer(first);
-        let read = Read {
-            net: n,
-            modfile: 0,
-            stim: 0,
-        };
-        return refuse(rt, net, modfile, stim, read, answer, parts, failed);
+    let mut read = Read {
+        net: 0,
+        modfile: 0,
+        stim: 0,
     };
-    let m = file_reading::read_file(rt, b"MOD", modfile);
-    let second = file_mod::check_mod(&net[..n], &modfile[..m]);
-    let ModAnswer::Accepted(_, _) = second else {
-        let answer = file_checks::mod_answer(second);
-        let read = Read {
-            net: n,
-            modfile: m,
-            stim: 0,
-        };
-        return refuse(rt, net, modfile, stim, read, answer, parts, failed);
+    read.net = read_file(rt, b"NET", net);
+    let first = check_net(&net[..read.net]);
+    let Ok(()) = first else {
+        print_refusal(rt, &read.of(net, modfile, stim), first, printed);
+        return read;
     };
-    let k = file_reading::read_file(rt, b"STIM", stim);
-    let third = file_stim::check_stim(&net[..n], &stim[..k]);
-    let StimAnswer::Accepted(lines) = third else {
-        let answer = file_checks::stim_answer(third);
-        let read = Read {
-            net: n,
-            modfile: m,
-            stim: k,
-        };
-        return refuse(rt, net, modfile, stim, read, answer, parts, failed);
+    let netlist = Netlist::new(&net[..read.net]);
+    read.modfile = read_file(rt, b"MOD", modfile);
+    let second = check_mod(&netlist, &modfile[..read.modfile]);
+    let Ok(()) = second else {
+        print_refusal(rt, &read.of(net, modfile, stim), second, printed);
+        return read;
     };
-    listing_print::print_listing(
-        rt,
-        &net[..n],
-        &modfile[..m],
-        &stim[..k],
-        lines,
-        parts,
-        failed,
-    );
-    Read {
-        net: n,
-        modfile: m,
-        stim: k,
-    }
+    read.stim = read_file(rt, b"STIM", stim);
+    let third = check_stim(&netlist, &stim[..read.stim]);
+    let Ok(lines) = third else {
+        let answer = third.map(|_| ());
+        print_refusal(rt, &read.of(net, modfile, stim), answer, printed);
+        return read;
+    };
+    print_listing(rt, &read.of(net, modfile, stim), lines, printed);
+    read
 }
 
+// A file is read up to one byte more than it may have: such a byte is surplus, whatever follows it.
 fn main(rt: HostRuntime) {
-    let mut net = net_buffer();
-    let mut modfile = mod_buffer();
-    let mut stim = stim_buffer();
-    let mut parts: u32 = 0;
-    let mut failed = false;
-    run(
-        &rt,
-        &mut net,
-        &mut modfile,
-        &mut stim,
-        &mut parts,
-        &mut failed,
-    );
+    let mut net = zeroed::<299082>();
+    let mut modfile = zeroed::<348246>();
+    let mut stim = zeroed::<1245147>();
+    let mut printed = Printed::new();
+    run(&rt, &mut net, &mut modfile, &mut stim, &mut printed);
 }

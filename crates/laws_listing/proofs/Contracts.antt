@@ -10,6 +10,7 @@ use denote.Triple.Clauses.{AtExit}
 use borrow.Fn.Kinds.{Dens, res_t, ended_of}
 use Rattle.model.specs.Files.{Files, files_of}
 use Rattle.clock.specs.declared.Cycle.{Cycle}
+use Rattle.file_lines.specs.Answer.{answered}
 use Rattle.file_checks.specs.Answer.{file_refusal}
 use Rattle.listing.specs.declared.Lister.{Lister}
 use Rattle.listing_cycle.specs.Changes.{piece_length}
@@ -48,5 +49,5 @@ counts κs a count left told e s = told ∙ ap (λ (x : Cycle). x.0 + 2) (sym e)
 
 -- a refusal's text
 pub refusal_written : (κs : Lfts 1) (a : Dens κs refusal-ps) (n : ℕ) (left : AtExit (ended_of 1 refusal-ps refusal-r) κs) → RefusalTells κs a n left
-    → (n ≡ length (refused_text (file_refusal a.0))) × (left.1.0.now ≡ sets a.1.0.now 0 (refused_text (file_refusal a.0)))
+    → (n ≡ length (refused_text (answered file_refusal a.0))) × (left.1.0.now ≡ sets a.1.0.now 0 (refused_text (answered file_refusal a.0)))
 refusal_written κs a n left told = told

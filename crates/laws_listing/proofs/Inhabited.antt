@@ -15,7 +15,7 @@ use Rattle.model.specs.Refusal.{Check, pass, fail}
 use Rattle.model.specs.Files.{Files}
 use Rattle.model.specs.Netlist.{net_check}
 use Rattle.model.specs.ModuleFile.{mod_check}
-use Rattle.model.specs.Stimulus.{stim_time, stim_signal, stim_value, stim_check, stim_count, end_time}
+use Rattle.model.specs.Stimulus.{stim_time, stim_check, stim_count, end_time}
 use Rattle.model.specs.Acceptance.{panel_limit, network_of, file_check, Accepted}
 use Rattle.model.specs.Listing.{printed}
 use Rattle.model.specs.Demands.{Demand2}
@@ -25,7 +25,7 @@ use Rattle.buffers_memory.specs.Memory.{memory_of, with_memory}
 use Rattle.buffers_tables.specs.Panel.{signals_in, processors_in, slots_in, finished_in, watched_in, mask_in}
 use Rattle.machine_run.specs.Running.{cycle_in}
 use Rattle.buffers_load_files.specs.Loaded.{panel_of, program_of, opening_bytes}
-use Rattle.file_checks.specs.declared.FileAnswer.TheVariants.{Refused}
+use Rattle.file_stim.specs.Judging.{numbers_of}
 use Rattle.session_state.specs.declared.Session.{Session}
 use Rattle.file_stim.proofs.Steps.{GivenAt}
 use Rattle.listing.specs.declared.Lister.{Lister}
@@ -44,9 +44,9 @@ use Rattle.listing.proofs.Opening.{opened}
 use Rattle.laws_listing.proofs.Printed.{program_prints, program_demand_2}
 
 -- a line of STIM before its end line
-line_given : (stim : List ℕ) (line : ℕ) → line < stim_count stim
-    → GivenAt stim line (stim_time stim line) (stim_signal stim line) (stim_value stim line) (record { line = line + 1 })
-line_given stim line l = record { before_end = l; time_is = refl; signal_is = refl; value_is = refl; follows = refl }
+line_given : (stim : List ℕ) {t line : ℕ} → line < stim_count stim → stim_time stim line ≡ t
+    → GivenAt stim t line (numbers_of stim line) (record { line = line + 1 })
+line_given stim l now = record { before_end = l; time_is = now; signal_is = refl; value_is = refl; follows = refl }
 
 -- the settings of a time
 record Settled (stim panel : List ℕ) (t line : ℕ) : Type 0 where
@@ -63,7 +63,7 @@ settles {stim} {panel} {t} {line} {now} {at} (suc n) few b fed =
   where
     go : ((left : List ℕ) → Fed stim panel t line left (at + 1) → Settled stim panel t line) → Dec (at < stim_count stim)
         → Dec (stim_time stim at ≡ t) → Settled stim panel t line
-    go rest (yes l) (yes q) = rest _ (fed_more fed (line_given stim at l) q few 0 (record { signal = 1; mask = 0 }) _ refl)
+    go rest (yes l) (yes q) = rest _ (fed_more fed (line_given stim l q) few 0 (record { signal = 1; mask = 0 }) _ refl)
     go rest (yes l) (no d) = record { left = now; next = at; fed = fed; stops = λ b q. d q }
     go rest (no d) q = record { left = now; next = at; fed = fed; stops = λ b q. absurd (d b) }
 
@@ -187,9 +187,9 @@ prints_some read = go (net_check panel_limit read.NET) refl (mod_check (network_
   where
     go : (a : Check) → net_check panel_limit read.NET ≡ a → (b : Check) → mod_check (network_of read) read.MOD ≡ b
         → (c : Check) → stim_check (network_of read) read.STIM ≡ c → (text : List ℕ) × Prints read text
-    go (fail number returned) p b q c r = (_, net_refused (Refused number returned) (sym p) (λ e. pass_not_fail (sym e ∙ p)))
-    go pass p (fail number returned) q c r = (_, mod_refused p (Refused number returned) (sym q) (λ e. pass_not_fail (sym e ∙ q)))
-    go pass p pass q (fail number returned) r = (_, stim_refused p q (Refused number returned) (sym r) (λ e. pass_not_fail (sym e ∙ r)))
+    go (fail number returned) p b q c r = (_, net_refused (fail number returned) (sym p) (λ e. pass_not_fail (sym e ∙ p)))
+    go pass p (fail number returned) q c r = (_, mod_refused p (fail number returned) (sym q) (λ e. pass_not_fail (sym e ∙ q)))
+    go pass p pass q (fail number returned) r = (_, stim_refused p q (fail number returned) (sym r) (λ e. pass_not_fail (sym e ∙ r)))
     go pass p pass q pass r = lists read (first_both _ _ p (first_both _ _ q r))
 
 -- and it is `printed` of the files

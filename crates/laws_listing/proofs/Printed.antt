@@ -25,8 +25,6 @@ use Rattle.model.proofs.Demands.{joined_same, printed_demand_2}
 use Rattle.laws_prefix.proofs.Net.{net_prefix}
 use Rattle.laws_prefix.proofs.Module.{mod_prefix}
 use Rattle.laws_prefix.proofs.Stim.{stim_prefix}
-use Rattle.file_checks.specs.declared.FileAnswer.{FileAnswer}
-use Rattle.file_checks.specs.Answer.{file_refusal}
 use Rattle.listing.specs.declared.Lister.{Lister}
 use Rattle.file_checks.specs.Refused.{refused_text}
 use Rattle.listing.specs.Pieces.{piece_count, piece_at}
@@ -142,11 +140,11 @@ unfolding printed printed_for
 accepted_prints files accepted = rw accepted
 
 -- a refusal's text
-refused_is : (a : FileAnswer) (c : Check) (files : Files) → file_refusal a ≡ c → (c ≡ pass → ⊥) → file_check panel_limit files ≡ c
-    → refused_text (file_refusal a) ≡ printed panel_limit files
+refused_is : (said c : Check) (files : Files) → said ≡ c → (c ≡ pass → ⊥) → file_check panel_limit files ≡ c
+    → refused_text said ≡ printed panel_limit files
 unfolding refused_text printed printed_for
-refused_is a pass files e d check = absurd (d refl)
-refused_is a (fail number returned) files e d check = rw (e, check)
+refused_is said pass files e d check = absurd (d refl)
+refused_is said (fail number returned) files e d check = rw (e, check)
 
 module _ (files : Files) where
   abbrev read : Files
@@ -221,9 +219,9 @@ module _ (files : Files) where
 
   -- A text by the contracts of the functions, in the order in which the program calls them, is `printed` of the whole files
   pub program_prints : (text : List ℕ) → Prints read text → text ≡ printed panel_limit files
-  program_prints text (net_refused a e d) = refused_is a (net_check panel_limit read.NET) files e d (net_check_lem d)
-  program_prints text (mod_refused net a e d) = refused_is a (mod_check (network_of read) read.MOD) files e d (mod_check_lem net d)
-  program_prints text (stim_refused net m a e d) = refused_is a (stim_check (network_of read) read.STIM) files e d (stim_check_lem net m)
+  program_prints text (net_refused said e d) = refused_is said (net_check panel_limit read.NET) files e d (net_check_lem d)
+  program_prints text (mod_refused net said e d) = refused_is said (mod_check (network_of read) read.MOD) files e d (mod_check_lem net d)
+  program_prints text (stim_refused net m said e d) = refused_is said (stim_check (network_of read) read.STIM) files e d (stim_check_lem net m)
   program_prints text (listed accepted {pieces = pieces} stands steps count) =
       ap in_order (steps_give read 0 steps (omega arith) (λ h. stands))
       ∙ ap (λ (n : ℕ). in_order (pieces_from (piece_at read) 0 n)) count

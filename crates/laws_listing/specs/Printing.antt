@@ -1,13 +1,11 @@
 -- What may be printed for files, by the contracts of the functions that the program calls, in the order in which it calls them.
 use Rattle.std.specs.Prelude.{ℕ, ◌≡◌, List, [], ◌∷◌, ◌++◌, length, take}
-use Rattle.model.specs.Refusal.{pass}
+use Rattle.model.specs.Refusal.{Check, pass}
 use Rattle.model.specs.Files.{Files}
 use Rattle.model.specs.Netlist.{net_check}
 use Rattle.model.specs.ModuleFile.{mod_check}
 use Rattle.model.specs.Stimulus.{stim_check}
 use Rattle.model.specs.Acceptance.{panel_limit, network_of, Accepted}
-use Rattle.file_checks.specs.declared.FileAnswer.{FileAnswer}
-use Rattle.file_checks.specs.Answer.{file_refusal}
 use Rattle.listing.specs.declared.Lister.{Lister}
 use Rattle.listing.specs.declared.Piece.{Piece}
 use Rattle.listing_cycle.specs.Changes.{piece_length}
@@ -29,16 +27,16 @@ pub data Steps (stim program : List ℕ) : Lister → List ℕ → List ℕ → 
       → ((files : Files) (k : ℕ) → Stands files k l stim panel program memory shown → Gives files k lent p out stim panel' program memory' shown')
       → Steps stim program p.lister panel' memory' shown' pieces → Steps stim program l panel memory shown (take p.length out ∷ pieces)
 
--- A text that may be printed, these bytes of the files being read. A check's answer is as its contract says, and a refusal is printed by
+-- A text that may be printed, these bytes of the files being read. A check's answer says what its contract says, and a refusal is printed by
 -- `write_refusal`; the first listing is as `open` leaves it, and as many steps follow as `piece_count` tells.
 pub data Prints (read : Files) : List ℕ → Type 0 where
-  net_refused : (a : FileAnswer) → file_refusal a ≡ net_check panel_limit read.NET → (net_check panel_limit read.NET ≡ pass → ⊥)
-      → Prints read (refused_text (file_refusal a))
-  mod_refused : net_check panel_limit read.NET ≡ pass → (a : FileAnswer) → file_refusal a ≡ mod_check (network_of read) read.MOD
-      → (mod_check (network_of read) read.MOD ≡ pass → ⊥) → Prints read (refused_text (file_refusal a))
-  stim_refused : net_check panel_limit read.NET ≡ pass → mod_check (network_of read) read.MOD ≡ pass → (a : FileAnswer)
-      → file_refusal a ≡ stim_check (network_of read) read.STIM → (stim_check (network_of read) read.STIM ≡ pass → ⊥)
-      → Prints read (refused_text (file_refusal a))
+  net_refused : (said : Check) → said ≡ net_check panel_limit read.NET → (net_check panel_limit read.NET ≡ pass → ⊥)
+      → Prints read (refused_text said)
+  mod_refused : net_check panel_limit read.NET ≡ pass → (said : Check) → said ≡ mod_check (network_of read) read.MOD
+      → (mod_check (network_of read) read.MOD ≡ pass → ⊥) → Prints read (refused_text said)
+  stim_refused : net_check panel_limit read.NET ≡ pass → mod_check (network_of read) read.MOD ≡ pass → (said : Check)
+      → said ≡ stim_check (network_of read) read.STIM → (stim_check (network_of read) read.STIM ≡ pass → ⊥)
+      → Prints read (refused_text said)
   listed : Accepted panel_limit read → {l : Lister} {panel program memory shown : List ℕ} {pieces : List (List ℕ)}
       → Stands read 0 l read.STIM panel program memory shown → Steps read.STIM program l panel memory shown pieces
       → length pieces ≡ piece_count read → Prints read (in_order pieces)

@@ -6,16 +6,24 @@ ghost use Rattle.std.specs.Prelude.{◌≡◌, ℕ, ◌+◌, ◌≤◌, ◌<◌,
 ghost use Rattle.std.proofs.lemmas.List.Edits.{sets};
 ghost use Rattle.model.specs.Stimulus.{stim_time, stim_count, end_time};
 ghost use Rattle.buffers_memory.specs.Memory.{memory_of, with_memory, MemoryBytes};
-ghost use Rattle.buffers_tables.specs.Panel.{panel_length, signals_in, processors_in, slots_in, processor_in};
+ghost use Rattle.buffers_tables.specs.Panel.{signals_in, processors_in, slots_in, processor_in};
 ghost use Rattle.machine_run.specs.Running.{cycle_in};
-ghost use Rattle.listing_cycle.specs.Changes.{piece_length, shown_length, value_held, change_line, change_lines, shown_with};
+ghost use Rattle.listing_cycle.specs.Changes.{value_held, change_line, change_lines, shown_with};
 ghost use Rattle.listing_cycle.specs.Feeding.{Stimulus, Passed, Fed, SameNumbers};
 ghost use Rattle.listing_cycle.specs.Cycling.{Ready, OneMore};
 
+use buffers_memory::Memory;
+use buffers_tables::{Panel, Program};
 use clock::Cycle;
 use file_stim::Cursor;
 use gates::TruthTables;
 use session_state::Session;
+
+// The values last shown, by signal.
+pub type Shown = [u8; 4097];
+
+// The lines of a piece, a line of each signal at most.
+pub type PieceLines = [u8; 77824];
 
 // A session that has its settings for a cycle, and the line of STIM after them.
 #[derive(Clone, Copy)]
@@ -50,24 +58,22 @@ fn write_change(
 // "each whose value differs from the time before, by time and signal". Before time 0 no value is shown, so that all differ.
 pub fn write_changes(
     time: Cycle,
-    panel: &[u8],
-    memory: &[u8],
-    shown: &mut [u8],
-    out: &mut [u8],
+    panel: &Panel,
+    memory: &Memory,
+    shown: &mut Shown,
+    out: &mut PieceLines,
 ) -> usize
-    requires panel_len { (length panel.now ≡ panel_length) × (signals_in panel.now ≤ 4096) }
-    requires by_index { (s : ℕ) → 1 ≤ s → s ≤ signals_in panel.now → processor_in panel.now s < 16 }
+    requires signals_high { signals_in panel.now ≤ 4096 }
+    requires processors_low { (s : ℕ) → 1 ≤ s → s ≤ signals_in panel.now → processor_in panel.now s < 16 }
     requires memory_bytes { MemoryBytes memory.now }
-    requires shown_len { (length shown.old ≡ shown_length) × (length out.old ≡ piece_length) }
     ensures value { result ≡ length (change_lines (signals_in panel.now) time.0 (value_held panel.now memory.now) (λ s. get_or shown.old s 0)) }
     ensures out_after { out.new ≡ sets out.old 0 (change_lines (signals_in panel.now) time.0 (value_held panel.now memory.now) (λ s. get_or shown.old s 0)) }
     ensures shown_after { shown.new ≡ shown_with (signals_in panel.now) (value_held panel.now memory.now) (λ s. get_or shown.old s 0) }
 {
     let signals = buffers_tables::signals(panel);
     let mut at: usize = 0;
-    let mut s: u16 = 0;
-    while s < signals {
-        s += 1;
+    for passed in 0..signals {
+        let s = passed + 1;
         let value = machine_run::value_of(panel, memory, s);
         at = write_change(time, s, value, at, shown, out);
     }
@@ -104,11 +110,11 @@ pub fn take_settings(
     cursor: Cursor,
     time: Cycle,
     stim: &[u8],
-    panel: &mut [u8],
+    panel: &mut Panel,
 ) -> Settled
     requires stimulus { Stimulus stim.now }
     requires line_bound { cursor.line ≤ stim_count stim.now }
-    requires panel_len { (length panel.old ≡ panel_length) × (signals_in panel.old ≤ 4096) }
+    requires signals_high { signals_in panel.old ≤ 4096 }
     ensures fed { Fed stim.now panel.old time.0 cursor.line panel.new result.cursor.line }
     ensures fact { result.cursor.line < stim_count stim.now → stim_time stim.now result.cursor.line ≡ time.0 → ⊥ }
     ensures same_numbers { SameNumbers session result.session }
@@ -127,9 +133,9 @@ pub fn take_settings(
 pub fn run_one(
     tables: &TruthTables,
     session: Session,
-    panel: &[u8],
-    program: &[u8],
-    memory: &mut [u8],
+    panel: &Panel,
+    program: &Program,
+    memory: &mut Memory,
 ) -> Session
     requires { Ready session panel.now program.now memory.old }
     ensures one_more { OneMore session result }

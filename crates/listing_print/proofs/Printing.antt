@@ -9,7 +9,9 @@ use lib.Seq.{sets, sets-eq, length-sets, take-append_seam}
 use Rattle.model.specs.Refusal.{Check, pass, fail}
 use Rattle.model.specs.Files.{Files}
 use Rattle.model.specs.Acceptance.{panel_limit, network_of, file_check, Accepted}
-use Rattle.file_checks.specs.declared.FileAnswer.{FileAnswer}
+use Rattle.std.specs.Prelude.{Result}
+use Rattle.file_lines.specs.Answer.{answered}
+use Rattle.file_checks.specs.declared.FileRefusal.{FileRefusal}
 use Rattle.file_checks.specs.Answer.{file_refusal}
 use Rattle.listing.specs.declared.Lister.{Lister}
 use Rattle.listing.specs.declared.Piece.{Piece}
@@ -88,12 +90,13 @@ handed_last {files} parts {parts'} {failed} counts last = go failed refl
     go false e = handed_all (one_more parts counts e ∙ last) e
     go true e = handed_cut parts counts e (omega (arith, last))
 
-module _ (files : Files) (a : FileAnswer) (is : file_refusal a ≡ file_check panel_limit files) (not : file_refusal a ≡ pass → ⊥) where
-  pub refusal_part : (k : ℕ) → refused_text (file_refusal a) ≡ part_at files k
-  refusal_part = (refused_part files (file_refusal a) (file_check panel_limit files) is not).0
+module _ (files : Files) (a : Result (Unit {0}) FileRefusal) (is : answered file_refusal a ≡ file_check panel_limit files)
+    (refused : answered file_refusal a ≡ pass → ⊥) where
+  pub refusal_part : (k : ℕ) → refused_text (answered file_refusal a) ≡ part_at files k
+  refusal_part = (refused_part files (answered file_refusal a) (file_check panel_limit files) is refused).0
 
   pub refusal_count : 1 ≡ part_count files
-  refusal_count = (refused_part files (file_refusal a) (file_check panel_limit files) is not).1
+  refusal_count = (refused_part files (answered file_refusal a) (file_check panel_limit files) is refused).1
 
   pub refusal_handed : (parts parts' : ℕ) (failed : Bool) → parts ≡ 0 → parts' ≡ parts_after parts failed → Handing files parts' failed
   refusal_handed parts parts' failed none counts = handed_last parts counts (omega (arith, none, refusal_count))

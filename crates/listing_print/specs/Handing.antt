@@ -2,10 +2,20 @@
 -- the refusal.
 use Rattle.std.specs.Prelude.{ℕ, ◌+◌, ◌≤◌, ◌<◌, ◌≡◌, Bool, true, false, List}
 use Rattle.model.specs.Refusal.{Check, pass, fail}
-use Rattle.model.specs.Files.{Files}
+use Rattle.model.specs.Files.{Files, files_of}
 use Rattle.model.specs.Acceptance.{panel_limit, file_check}
 use Rattle.model.specs.Listing.{refusal_line}
 use Rattle.listing.specs.Pieces.{piece_count, piece_at}
+use Rattle.listing_print.specs.declared.ReadFiles.{ReadFiles}
+use Rattle.listing_print.specs.declared.Printed.{Printed}
+
+-- the files that were read, as the model has them
+abbrev pub bytes_of : ReadFiles → Files
+bytes_of files = files_of files.net.now files.modfile.now files.stim.now
+
+-- nothing is handed over yet
+abbrev pub unprinted : Printed
+unprinted = record { parts = 0; failed = false }
 
 unfoldable pub part_for : Check → Files → ℕ → List ℕ
 part_for pass files k = piece_at files k

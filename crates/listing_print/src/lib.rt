@@ -2,125 +2,120 @@
 
 #![tactic(auto)]
 
-ghost use Rattle.std.specs.Prelude.{◌≡◌, false, ◌<◌};
+ghost use Rattle.std.specs.Prelude.{◌≡◌, false, ◌<◌, replicate};
 ghost use Rattle.model.specs.Refusal.{pass};
-ghost use Rattle.model.specs.Files.{files_of};
 ghost use Rattle.model.specs.Acceptance.{panel_limit, file_check, Accepted};
 ghost use Rattle.model.specs.Stimulus.{stim_count};
+ghost use Rattle.file_lines.specs.Answer.{answered};
 ghost use Rattle.file_checks.specs.Answer.{file_refusal};
-ghost use Rattle.listing_print.specs.Handing.{part_at, part_count, parts_after, Handing};
+ghost use Rattle.listing_print.specs.Handing.{bytes_of, unprinted, part_at, part_count, parts_after, Handing};
 
 use buffers_memory::MEMORY_BYTES;
 use buffers_tables::{PANEL_BYTES, PROGRAM_BYTES};
-use clock::Cycle;
-use file_checks::FileAnswer;
+use file_checks::FileRefusal;
 use gates::TruthTables;
 
-fn panel_buffer() -> [u8; PANEL_BYTES] {
-    [0; PANEL_BYTES]
+// The bytes that were read of each file.
+#[derive(Clone, Copy)]
+pub struct ReadFiles<'a> {
+    pub net: &'a [u8],
+    pub modfile: &'a [u8],
+    pub stim: &'a [u8],
 }
 
-fn program_buffer() -> [u8; PROGRAM_BYTES] {
-    [0; PROGRAM_BYTES]
+// How many parts are written of what is printed, and whether one could not be. It is lent from part to part and never copied, since a
+// part could be handed over twice.
+#[derive(Drop)]
+pub struct Printed {
+    pub parts: u32,
+    pub failed: bool,
 }
 
-fn memory_buffer() -> [u8; MEMORY_BYTES] {
-    [0; MEMORY_BYTES]
-}
-
-fn piece_buffer() -> [u8; 77824] {
-    [0; 77824]
-}
-
-// The one writer. It is lent the bytes read of each file and takes the next part of what is printed for them, no other; it counts a
-// part that was written and tells one that could not be. It counts behind a reference, since a number could be handed over twice.
-fn put(
-    rt: &impl Print,
-    net: &[u8],
-    modfile: &[u8],
-    stim: &[u8],
-    part: &[u8],
-    parts: &mut u32,
-    failed: &mut bool,
-)
-    requires part_value { part.now ≡ part_at (files_of net.now modfile.now stim.now) parts.old }
-    requires parts_bound { parts.old < part_count (files_of net.now modfile.now stim.now) }
-    requires failed_value { failed.old ≡ false }
-    ensures counted { parts.new ≡ parts_after parts.old failed.new }
-{
-    match rt.write_all(part) {
-        Ok(()) => *parts += 1,
-        Err(_) => *failed = true,
+impl Printed {
+    pub fn new() -> Printed
+        ensures { result ≡ unprinted }
+    {
+        Printed {
+            parts: 0,
+            failed: false,
+        }
     }
+
+    // The one writer. It takes the next part of what is printed for the files that were read, no other; it counts a part that was
+    // written and tells one that could not be.
+    fn put(&mut self, rt: &impl Print, files: &ReadFiles, part: &[u8])
+        requires part_value { part.now ≡ part_at (bytes_of files.now) self.old.parts }
+        requires parts_bound { self.old.parts < part_count (bytes_of files.now) }
+        requires unfailed { self.old.failed ≡ false }
+        ensures counted { self.new.parts ≡ parts_after self.old.parts self.new.failed }
+    {
+        match rt.write_all(part) {
+            Ok(()) => self.parts += 1,
+            Err(_) => self.failed = true,
+        }
+    }
+}
+
+// A buffer of a length.
+pub fn zeroed<const N: usize>() -> [u8; N]
+    ensures { result ≡ replicate N 0 }
+{
+    [0; N]
 }
 
 // "prints one line of two fields, number and returned value".
 pub fn print_refusal(
     rt: &impl Print,
-    net: &[u8],
-    modfile: &[u8],
-    stim: &[u8],
-    answer: FileAnswer,
-    parts: &mut u32,
-    failed: &mut bool,
+    files: &ReadFiles,
+    answer: Result<(), FileRefusal>,
+    printed: &mut Printed,
 )
-    requires answer_value { file_refusal answer ≡ file_check panel_limit (files_of net.now modfile.now stim.now) }
-    requires fact { file_refusal answer ≡ pass → ⊥ }
-    requires parts_value { parts.old ≡ 0 }
-    requires failed_value { failed.old ≡ false }
-    ensures handed { Handing (files_of net.now modfile.now stim.now) parts.new failed.new }
+    requires answer_value { answered file_refusal answer ≡ file_check panel_limit (bytes_of files.now) }
+    requires refused { answered file_refusal answer ≡ pass → ⊥ }
+    requires nothing_yet { printed.old ≡ unprinted }
+    ensures handed { Handing (bytes_of files.now) printed.new.parts printed.new.failed }
 {
-    let mut line = [0u8; 13];
+    let mut line = [0; 13];
     let length = file_checks::write_refusal(answer, &mut line);
-    put(rt, net, modfile, stim, &line[..length], parts, failed);
+    printed.put(rt, files, &line[..length]);
 }
 
 // The listing, piece by piece, until one can not be written. The tables of the gates are made once and lent to every step.
-pub fn print_listing(
-    rt: &impl Print,
-    net: &[u8],
-    modfile: &[u8],
-    stim: &[u8],
-    lines: u16,
-    parts: &mut u32,
-    failed: &mut bool,
-)
-    requires accepted { Accepted panel_limit (files_of net.now modfile.now stim.now) }
-    requires lines_value { lines ≡ stim_count stim.now }
-    requires parts_value { parts.old ≡ 0 }
-    requires failed_value { failed.old ≡ false }
-    ensures handed { Handing (files_of net.now modfile.now stim.now) parts.new failed.new }
+pub fn print_listing(rt: &impl Print, files: &ReadFiles, lines: u16, printed: &mut Printed)
+    requires accepted { Accepted panel_limit (bytes_of files.now) }
+    requires lines_value { lines ≡ stim_count files.now.stim.now }
+    requires nothing_yet { printed.old ≡ unprinted }
+    ensures handed { Handing (bytes_of files.now) printed.new.parts printed.new.failed }
 {
     let tables = TruthTables::new();
-    let mut panel = panel_buffer();
-    let mut program = program_buffer();
-    let mut memory = memory_buffer();
-    let mut shown = [0u8; 4097];
-    let mut piece = piece_buffer();
+    let mut panel = zeroed::<PANEL_BYTES>();
+    let mut program = zeroed::<PROGRAM_BYTES>();
+    let mut memory = zeroed::<MEMORY_BYTES>();
+    let mut shown = [0; 4097];
+    let mut piece = zeroed::<77824>();
     let mut lister = listing::open(
-        net,
-        modfile,
-        stim,
+        files.net,
+        files.modfile,
+        files.stim,
         lines,
         &mut panel,
         &mut program,
         &mut memory,
         &mut shown,
     );
-    let end: Cycle = lister.end;
-    let count = listing::piece_count(end);
+    let count = listing::piece_count(lister.end);
     for _ in 0..count {
         let next = lister.step(
             &tables,
-            stim,
+            files.stim,
             &mut panel,
             &program,
             &mut memory,
             &mut shown,
             &mut piece,
         );
-        put(rt, net, modfile, stim, &piece[..next.length], parts, failed);
-        if *failed {
+        printed.put(rt, files, &piece[..next.length]);
+        if printed.failed {
             return;
         }
         lister = next.lister;

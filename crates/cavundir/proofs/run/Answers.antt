@@ -1,74 +1,47 @@
 -- Each check has what it asks for, a refusal is the first of the files read, and the listing is of accepted files.
-use mathlib.Core.Path.{refl, sym, ◌∙◌}
-use native.Mathlib.Omega.{arith}
-use Rattle.file_lines.proofs.Stages.{passes, refuses}
+use mathlib.Core.Path.{sym, ap, ◌∙◌}
+use Rattle.file_lines.specs.Answer.{answered}
+use Rattle.file_lines.proofs.Stages.{passes}
+use Rattle.file_checks.specs.Answer.{file_refusal}
 use Rattle.file_checks.proofs.Joined.{net_stops, mod_stops, stim_last}
 use Rattle.cavundir.proofs.Accepting.{all_accepted}
 use Rattle.cavundir.proofs.Running.{handed_prints}
 use Rattle.cavundir.proofs.run.Goals as goal
 
-pub refuse-requires : goal.refuse-requires
-refuse-requires g c =
-    let told = c.net_answer-answer.ensures in
-    let answers = c.check_net-first.ensures in
-    record {
-      net_in_bounds = (c.read_file-n.ensures, omega arith, omega arith);
-      answer_value = told ∙ net_stops _ _ _ _ answers c.in_default.not-Accepted;
-      fact = λ e. refuses answers (c.in_default.not-Accepted _) (sym told ∙ e);
-      parts_value = c.requires.parts_value;
-      failed_value = c.requires.failed_value;
-    }
+pub print_refusal-requires-clause-answer_value : goal.print_refusal-requires-clause-answer_value
+print_refusal-requires-clause-answer_value g c = rw c.of.ensures (net_stops _ _ _ c.check_net-first.ensures c.in_default.is)
 
-pub returns-in_default : goal.returns-in_default
-returns-in_default g c =
-    record { handed = c.refuse.ensures.handed; prints = handed_prints c.refuse.ensures.handed }
+pub returns-in_default-clause-prints : goal.returns-in_default-clause-prints
+returns-in_default-clause-prints g c = handed_prints (rw c.of.ensures at c.print_refusal.ensures.handed)
 
-pub refuse-requires-in_default-second : goal.refuse-requires-in_default-second
-refuse-requires-in_default-second g c =
-    let net_right = passes c.check_net-first.ensures c.in-Accepted.is refl in
-    let told = c.mod_answer-answer.ensures in
-    let answers = c.check_mod-second.ensures in
-    record {
-      net_in_bounds = (c.read_file-n.ensures, c.read_file-m.ensures, omega arith);
-      answer_value = told ∙ mod_stops _ _ _ net_right _ answers c.in_default-second.not-Accepted;
-      fact = λ e. refuses answers (c.in_default-second.not-Accepted _ _) (sym told ∙ e);
-      parts_value = c.requires.parts_value;
-      failed_value = c.requires.failed_value;
-    }
+pub print_refusal-requires-in_default-second-clause-answer_value : goal.print_refusal-requires-in_default-second-clause-answer_value
+print_refusal-requires-in_default-second-clause-answer_value g c =
+    let net_right = passes c.check_net-first.ensures c.in-Ok.is in
+    let answers = rw c.new-netlist.ensures at c.check_mod-second.ensures in
+    rw c.of-in_default-second.ensures (mod_stops _ _ _ net_right answers c.in_default-second.is)
 
-pub returns-in_default-second : goal.returns-in_default-second
-returns-in_default-second g c =
-    record {
-      handed = c.refuse-in_default-second.ensures.handed;
-      prints = handed_prints c.refuse-in_default-second.ensures.handed;
-    }
+pub returns-in_default-second-clause-prints : goal.returns-in_default-second-clause-prints
+returns-in_default-second-clause-prints g c =
+    handed_prints (rw c.of-in_default-second.ensures at c.print_refusal-in_default-second.ensures.handed)
 
-pub refuse-requires-in_default-third : goal.refuse-requires-in_default-third
-refuse-requires-in_default-third g c =
-    let net_right = passes c.check_net-first.ensures c.in-Accepted.is refl in
-    let mod_right = passes c.check_mod-second.ensures c.in-Accepted-second.is refl in
-    let told = c.stim_answer-answer.ensures in
-    let answers = c.check_stim-third.ensures in
-    record {
-      net_in_bounds = (c.read_file-n.ensures, c.read_file-m.ensures, c.read_file-k.ensures);
-      answer_value = told ∙ stim_last _ _ _ net_right _ mod_right answers;
-      fact = λ e. refuses answers (c.in_default-third.not-Accepted _) (sym told ∙ e);
-      parts_value = c.requires.parts_value;
-      failed_value = c.requires.failed_value;
-    }
+pub print_refusal-requires-in_default-third-clause-answer_value : goal.print_refusal-requires-in_default-third-clause-answer_value
+print_refusal-requires-in_default-third-clause-answer_value g c =
+    let net_right = passes c.check_net-first.ensures c.in-Ok.is in
+    let mod_right = passes (rw c.new-netlist.ensures at c.check_mod-second.ensures) c.in-Ok-second.is in
+    let answers = rw c.new-netlist.ensures at c.check_stim-third.ensures in
+    let same = rw c.in_default-third.is at c.map-answer.ensures.cases in
+    rw c.of-in_default-third.ensures
+    (ap (answered file_refusal) same ∙ sym (ap (answered file_refusal) c.in_default-third.is) ∙ stim_last _ _ _ net_right mod_right answers)
 
-pub returns-in_default-third : goal.returns-in_default-third
-returns-in_default-third g c =
-    record {
-      handed = c.refuse-in_default-third.ensures.handed;
-      prints = handed_prints c.refuse-in_default-third.ensures.handed;
-    }
+pub returns-in_default-third-clause-prints : goal.returns-in_default-third-clause-prints
+returns-in_default-third-clause-prints g c =
+    handed_prints (rw c.of-in_default-third.ensures at c.print_refusal-in_default-third.ensures.handed)
 
 pub print_listing-requires-clause-accepted : goal.print_listing-requires-clause-accepted
 print_listing-requires-clause-accepted g c =
-    let net_right = passes c.check_net-first.ensures c.in-Accepted.is refl in
-    let mod_right = passes c.check_mod-second.ensures c.in-Accepted-second.is refl in
-    (all_accepted _ _ _ net_right mod_right _ _ c.in-Accepted-third.is c.check_stim-third.ensures).0
+    let net_right = passes c.check_net-first.ensures c.in-Ok.is in
+    let mod_right = passes (rw c.new-netlist.ensures at c.check_mod-second.ensures) c.in-Ok-second.is in
+    rw c.of-2.ensures (all_accepted _ _ _ net_right mod_right c.in-Ok-third.is (rw c.new-netlist.ensures at c.check_stim-third.ensures)).0
 
 pub returns-clause-prints : goal.returns-clause-prints
-returns-clause-prints g c = handed_prints c.print_listing.ensures.handed
+returns-clause-prints g c = handed_prints (rw c.of-2.ensures at c.print_listing.ensures.handed)

@@ -1,9 +1,10 @@
 -- The settings so far are those of the lines passed.
 use mathlib.Core.Path.{refl, sym, ◌∙◌}
 use mathlib.Core.List.{[]}
+use borrow.Author.Rules.{rules}
 use native.Mathlib.Omega.{arith}
 use Rattle.file_stim.proofs.Steps.{GivenAt, line_right, given_at, none_at}
-use Rattle.listing_cycle.proofs.Feeding.{set_keeps, fed_starts, fed_size, fed_signals, fed_more}
+use Rattle.listing_cycle.proofs.Feeding.{set_keeps, fed_starts, fed_signals, fed_more}
 use Rattle.listing_cycle.proofs.take_settings.Goals as goal
 use Rattle.listing_cycle.proofs.take_settings.Goals.{In-Some}
 
@@ -12,7 +13,7 @@ gives : (c : In-Some) → GivenAt c.args.stim.now c.args.time.0 c.loop-line.curs
 gives c = given_at _ _ c.requires.stimulus.passes _ _ c.loop-line.invariant.fed.few _ _ (sym c.next_of.ensures ∙ c.in-Some.is)
 
 pub loop-line-init : goal.loop-line-init
-loop-line-init c = record { fed = fed_starts _ _ _ _ c.requires.panel_len.0 c.requires.line_bound; same_numbers = (refl, refl) }
+loop-line-init c = record { fed = fed_starts _ _ _ _ (search rules) c.requires.line_bound; same_numbers = (refl, refl) }
 
 pub next_of-requires : goal.next_of-requires
 next_of-requires c = line_right _ _ c.requires.stimulus.passes _ c.loop-line.invariant.fed.few
@@ -22,7 +23,7 @@ returns-clause-fact c =
     none_at _ _ c.requires.stimulus.passes _ _ c.loop-line.invariant.fed.few (sym c.next_of.ensures ∙ c.in_default.is)
 
 pub set-told-requires : goal.set-told-requires
-set-told-requires c = (fed_size c.loop-line.invariant.fed, fed_signals c.loop-line.invariant.fed c.requires.panel_len.1)
+set-told-requires c = fed_signals c.loop-line.invariant.fed c.requires.signals_high
 
 pub loop-line-smaller : goal.loop-line-smaller
 loop-line-smaller c = let g = gives (goal.at.loop-line-smaller c).In-Some in omega (arith, g.before_end, g.follows)
@@ -34,6 +35,6 @@ loop-line-preserved c =
     let kept = set_keeps _ _ _ _ in
     let numbers = c.loop-line.invariant.same_numbers in
     record {
-      fed = fed_more c.loop-line.invariant.fed (gives (goal.at.loop-line-preserved c).In-Some) c.requires.panel_len.1 _ _ _ hand;
+      fed = fed_more c.loop-line.invariant.fed (gives (goal.at.loop-line-preserved c).In-Some) c.requires.signals_high _ _ _ hand;
       same_numbers = (told.finished ∙ kept.0 ∙ numbers.0, told.watch ∙ kept.1 ∙ numbers.1);
     }

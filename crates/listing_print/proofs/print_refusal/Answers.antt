@@ -1,9 +1,9 @@
 -- The line of a refusal fits, and is the one part of what is printed.
-use mathlib.Core.Path.{◌∙◌}
+use mathlib.Core.Path.{◌∙◌, ap}
 use native.Mathlib.Omega.{arith}
 use Rattle.file_checks.specs.Refused.{refused_text}
 use Rattle.file_checks.proofs.Refused.{refused_short}
-use borrow.Author.Rules.{rules}
+use Rattle.listing_print.specs.declared.Printed.{Printed}
 use Rattle.listing_print.proofs.Parts.{prefix_length}
 use Rattle.listing_print.proofs.Printing.{written, line_short, refusal_part, refusal_count, refusal_handed}
 use Rattle.listing_print.proofs.print_refusal.Goals as goal
@@ -18,15 +18,16 @@ slice_bounds-put-end g c =
 
 pub put-requires-clause-part_value : goal.put-requires-clause-part_value
 put-requires-clause-part_value g c =
-    let one = refusal_count _ c.args.answer c.requires.answer_value c.requires.fact in
+    let one = refusal_count _ c.args.answer c.requires.answer_value c.requires.refused in
     let line = written (refused_text _) _ _ _ c.write_refusal-length.ensures.out_after c.write_refusal-length.ensures.value (refused_short _) in
-    line ∙ refusal_part _ c.args.answer c.requires.answer_value c.requires.fact _
+    line ∙ refusal_part _ c.args.answer c.requires.answer_value c.requires.refused _
 
 pub put-requires-clause-parts_bound : goal.put-requires-clause-parts_bound
 put-requires-clause-parts_bound g c =
-    let one = refusal_count _ c.args.answer c.requires.answer_value c.requires.fact in
+    let one = refusal_count _ c.args.answer c.requires.answer_value c.requires.refused in
     let line = written (refused_text _) _ _ _ c.write_refusal-length.ensures.out_after c.write_refusal-length.ensures.value (refused_short _) in
-    omega (arith, one, c.requires.parts_value)
+    omega (arith, one, ap (λ (p : Printed). p.parts) c.requires.nothing_yet)
 
 pub returns : goal.returns
-returns g c = record { handed = search (rules, refusal_handed) }
+returns g c =
+    record { handed = refusal_handed _ c.args.answer c.requires.answer_value c.requires.refused _ _ _ (ap (λ (p : Printed). p.parts) c.requires.nothing_yet) c.put.ensures.counted }
