@@ -14,19 +14,21 @@ ghost use Rattle.buffers_tables.specs.Panel.{panel_length};
 ghost use Rattle.buffers_tables.specs.Program.{program_length};
 ghost use Rattle.buffers_load_files.specs.Loaded.{panel_of, program_of, opening_bytes};
 
+use buffers_memory::Memory;
+use buffers_tables::{Panel, Program};
+
 // The three buffers of accepted files.
 pub fn load(
     net: &[u8],
     modfile: &[u8],
     stim: &[u8],
-    panel: &mut [u8],
-    program: &mut [u8],
-    memory: &mut [u8],
+    panel: &mut Panel,
+    program: &mut Program,
+    memory: &mut Memory,
 )
     requires checked { Checked net.now }
     requires modfile_value { mod_check (network net.now) modfile.now ≡ pass }
     requires stim_value { stim_check (network net.now) stim.now ≡ pass }
-    requires panel_len { (length panel.old ≡ panel_length) × (length program.old ≡ program_length) × (length memory.old ≡ memory_length) }
     ensures panel_after { panel.new ≡ panel_of (files_of net.now modfile.now stim.now) }
     ensures program_after { program.new ≡ program_of (files_of net.now modfile.now stim.now) }
     ensures memory_after { memory.new ≡ opening_bytes (files_of net.now modfile.now stim.now) }

@@ -11,7 +11,7 @@ ghost use Rattle.buffers_load_files.specs.Loaded.{opening_with};
 ghost use Rattle.buffers_load_files.specs.Checked.{value_in};
 ghost use Rattle.buffers_load_memory.specs.Bytes.{sent_value, opening_byte};
 
-use buffers_memory::{PART_STRIDE, PROCESSOR_STRIDE, SWITCH_PRESENT};
+use buffers_memory::{Memory, PART_STRIDE, PROCESSOR_STRIDE, SWITCH_PRESENT};
 use clock::Slot;
 use file_mod_lines::Place;
 use file_mod_table::ModTable;
@@ -78,9 +78,8 @@ impl<'a> Opening<'a> {
 }
 
 // The memory before cycle 1, by the time 0 values.
-pub fn load_memory(table: &ModTable, values: &[u8; 4097], memory: &mut [u8])
+pub fn load_memory(table: &ModTable, values: &[u8; 4097], memory: &mut Memory)
     requires empty { get_or values.now 0 0 ≡ 0 }
-    requires memory_len { length memory.old ≡ memory_length }
     ensures { memory.new ≡ opening_with table.now.modfile.now (value_in values.now) }
 {
     let opening = Opening { table, values };

@@ -11,7 +11,7 @@ ghost use Rattle.buffers_load_files.specs.Loaded.{place_of, panel_byte, panel_wi
 ghost use Rattle.buffers_load_files.specs.Checked.{value_in};
 ghost use Rattle.buffers_load_panel.specs.Lines.{LineNumbers};
 
-use buffers_tables::{HAND, KIND, PANEL_STRIDE, PROCESSOR};
+use buffers_tables::{HAND, KIND, PANEL_STRIDE, PROCESSOR, Panel};
 use file_mod_lines::{Place, Shape};
 use file_mod_table::ModTable;
 
@@ -85,9 +85,8 @@ fn panel_byte(
 }
 
 // The panel as the session opens, with given values in hand.
-pub fn load_panel(net: &[u8], table: &ModTable, values: &[u8; 4097], panel: &mut [u8])
+pub fn load_panel(net: &[u8], table: &ModTable, values: &[u8; 4097], panel: &mut Panel)
     requires checked { Checked net.now }
-    requires panel_len { length panel.old ≡ panel_length }
     ensures { panel.new ≡ panel_with net.now table.now.modfile.now (value_in values.now) }
 {
     let mut places = [0; 4097];

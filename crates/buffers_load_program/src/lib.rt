@@ -8,7 +8,7 @@ ghost use Rattle.file_mod_table.specs.Line.{Within};
 ghost use Rattle.buffers_tables.specs.Program.{program_length, line_stride, line_bytes, line_processor, line_slot, line_column};
 ghost use Rattle.buffers_load_files.specs.Loaded.{program_byte, program_from};
 
-use buffers_tables::{LINE_STRIDE, OPERAND1, SLOT_LINES};
+use buffers_tables::{LINE_STRIDE, OPERAND1, Program, SLOT_LINES};
 use clock::Slot;
 use file_mod_lines::Place;
 use file_mod_table::ModTable;
@@ -42,8 +42,7 @@ fn program_byte(table: &ModTable, a: usize) -> u8
 }
 
 // The program: MOD's lines, slot by slot.
-pub fn load_program(table: &ModTable, program: &mut [u8])
-    requires { length program.old ≡ program_length }
+pub fn load_program(table: &ModTable, program: &mut Program)
     ensures { program.new ≡ program_from table.now.modfile.now }
 {
     buffers_load_files::fill_by(program, |a| program_byte(table, a));

@@ -8,8 +8,8 @@ use Rattle.buffers_load.proofs.load.Goals as goal
 pub table_of-table-requires : goal.table_of-table-requires
 table_of-table-requires c = schedules _ _ c.requires.checked c.requires.modfile_value
 
-pub load_memory-requires-clause-empty : goal.load_memory-requires-clause-empty
-load_memory-requires-clause-empty c = values_none (files_of c.args.net.now c.args.modfile.now c.args.stim.now) _ c.load_values.ensures
+pub load_memory-requires : goal.load_memory-requires
+load_memory-requires c = record { empty = values_none (files_of c.args.net.now c.args.modfile.now c.args.stim.now) _ c.load_values.ensures }
 
 pub returns-clause-panel_after : goal.returns-clause-panel_after
 returns-clause-panel_after c =

@@ -8,5 +8,5 @@ use Rattle.buffers_load_memory.proofs.load_memory.Goals as goal
 pub returns : goal.returns
 unfolding written
 returns c =
-    rw c.requires.memory_len at
+    rw c.told-memory at
     (c.fill_by.ensures (λ a. opening_byte c.args.table.now.modfile.now (value_in c.args.values.now) (byte_processor a) (byte_part a) (byte_location a)) (λ a x low q. search rules))

@@ -17,10 +17,10 @@ load_places-requires c = λ s h. get_or-replicate 4097 s 0 0 (omega arith)
 pub fill_by-requires : goal.fill_by-requires
 fill_by-requires c =
     let lines : LineNumbers c.args.table.now.shape.slots c.load_places.new.places = placed_lines c.args.table.now.laid.sized _ c.load_places.ensures in
-    λ a low. let within : a < panel_length = omega (arith, c.requires.panel_len) in search rules
+    λ a low. let within : a < panel_length = omega (arith, c.told-panel) in search rules
 
 pub returns : goal.returns
 returns c =
     let sized = c.args.table.now.laid.sized in
     panel_placed c.args.net.now c.args.table.now.modfile.now c.requires.checked _ _ _ _ sized.processors sized.slots c.load_places.ensures _
-    (rw c.requires.panel_len at (c.fill_by.ensures (λ a. panel_byte c.args.net.now c.args.table.now.shape.processors c.args.table.now.shape.slots (value_in c.load_places.new.places) (value_in c.args.values.now) (signal_of a) (column_of a)) (λ a x low q. search rules)))
+    (rw c.told-panel at (c.fill_by.ensures (λ a. panel_byte c.args.net.now c.args.table.now.shape.processors c.args.table.now.shape.slots (value_in c.load_places.new.places) (value_in c.args.values.now) (signal_of a) (column_of a)) (λ a x low q. search rules)))

@@ -7,5 +7,5 @@ use Rattle.buffers_load_program.proofs.load_program.Goals as goal
 pub returns : goal.returns
 unfolding program_from
 returns c =
-    rw c.requires at
+    rw c.told-program at
     (c.fill_by.ensures (λ a. program_byte c.args.table.now.modfile.now (line_processor a) (line_slot a) (line_column a)) (λ a x low q. search rules))
