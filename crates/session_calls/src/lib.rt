@@ -23,7 +23,7 @@ use gates::TruthTables;
 use session_answers::CallRefusal;
 use session_state::Told;
 
-// 40 where a length differs from the fixed one, then 44.
+// 40 where a length differs from the fixed one, then 44. After an Ok each buffer is an array of its length.
 fn readiness(panel: &[u8], program: &[u8], memory: &[u8]) -> Result<(), CallRefusal>
     ensures { Answers call_refusal (tt {0}) (ready_check (buffers_of panel.now program.now memory.now)) result }
 {
@@ -92,6 +92,8 @@ fn run_in(panel: &mut Panel, program: &Program, memory: &mut Memory, cycles: u32
         panel,
     )
 }
+
+// The four calls stay apart: they are four entries for C, and each is lent other buffers to write.
 
 // Set an input for the next cycle. Refused by 40, 44, 41, 42, in this order.
 pub fn set(panel: &mut [u8], program: &[u8], memory: &[u8], signal: u32, value: u32) -> u64
