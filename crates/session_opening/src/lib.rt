@@ -53,7 +53,14 @@ pub fn open(
         return refuse(CallRefusal::WrongLength, panel, program, memory);
     }
     let Err(refusal) = file_checks::check_files(net, modfile, stim) else {
-        buffers_load::load(net, modfile, stim, panel, program, memory);
+        buffers_load::load(
+            net,
+            modfile,
+            stim,
+            panel.as_mut_array().unwrap(),
+            program.as_mut_array().unwrap(),
+            memory.as_mut_array().unwrap(),
+        );
         return 0;
     };
     refuse(refusal, panel, program, memory)

@@ -1,6 +1,5 @@
 -- The three ways out: a wrong length, accepted files, a refused file. Each gives the check, and with it the answer and the bytes.
 use mathlib.Core.Path.{sym, ◌∙◌}
-use borrow.Author.Tests.{not-true, not-false}
 use Rattle.model.specs.Files.{files_of}
 use Rattle.model.specs.Acceptance.{panel_limit}
 use Rattle.buffers_lengths.specs.Lengths.{lengths_lent}
@@ -10,15 +9,13 @@ use Rattle.model.proofs.Checked.{files_checked}
 use Rattle.buffers_load_files.specs.Loaded.{panel_of, program_of, opening_bytes}
 use Rattle.buffers_lengths.proofs.Sizes.{same_sizes}
 use Rattle.session_opening.proofs.Outcome.{wrong_length, right_length, files_accepted, files_refused, accepted_bits, accepted_left}
-use mathlib.Core.Path.{ap}
-use mathlib.Core.Bool.{not}
 use Rattle.session_opening.proofs.open.Goals as goal
 
 pub returns-then-not-lengths_right : goal.returns-then-not-lengths_right
 returns-then-not-lengths_right c =
     let files = files_of c.args.net.now c.args.modfile.now c.args.stim.now in
     let lent = lengths_lent c.args.panel.now c.args.program.now c.args.memory.now in
-    let e = wrong_length panel_limit files lent (sym c.lengths_right.ensures ∙ not-true _ (ap not c.if-not-lengths_right.true)) in
+    let e = wrong_length panel_limit files lent (sym c.lengths_right.ensures ∙ c.if-not-lengths_right.true) in
     record {
       answer = rw e c.refuse.ensures.value;
       panel = rw e (c.refuse.ensures.panel_after _);
@@ -26,21 +23,31 @@ returns-then-not-lengths_right c =
       memory = rw e (c.refuse.ensures.memory_after _);
     }
 
+pub unwrap-requires : goal.unwrap-requires
+unwrap-requires c =
+    c.as_mut_array.ensures.variant.1 (same_sizes _ _ _ (sym c.lengths_right.ensures ∙ c.if-not-lengths_right.false)).panel_size
+
+pub unwrap-requires-in_default : goal.unwrap-requires-in_default
+unwrap-requires-in_default c =
+    c.as_mut_array-in_default.ensures.variant.1 (same_sizes _ _ _ (sym c.lengths_right.ensures ∙ c.if-not-lengths_right.false)).program_size
+
+pub unwrap-requires-in_default-2 : goal.unwrap-requires-in_default-2
+unwrap-requires-in_default-2 c =
+    c.as_mut_array-in_default-2.ensures.variant.1 (same_sizes _ _ _ (sym c.lengths_right.ensures ∙ c.if-not-lengths_right.false)).memory_size
+
 pub load-requires : goal.load-requires
 load-requires c =
     let e = files_accepted _ _ c.check_files.ensures c.in_default.is in
-    let l = same_sizes _ _ _ (sym c.lengths_right.ensures ∙ not-false _ (ap not c.if-not-lengths_right.false)) in
     record {
       checked = files_checked 4096 (omega arith) _ e;
       modfile_value = mod_accepted 4096 _ e;
       stim_value = stim_accepted 4096 _ e;
-      panel_len = (l.panel_size, l.program_size, l.memory_size);
     }
 
 pub returns-in_default : goal.returns-in_default
 returns-in_default c =
     let files = files_of c.args.net.now c.args.modfile.now c.args.stim.now in
-    let e = right_length _ _ _ (sym c.lengths_right.ensures ∙ not-false _ (ap not c.if-not-lengths_right.false))
+    let e = right_length _ _ _ (sym c.lengths_right.ensures ∙ c.if-not-lengths_right.false)
     ∙ files_accepted _ _ c.check_files.ensures c.in_default.is in
     record {
       answer = accepted_bits e;
@@ -51,7 +58,7 @@ returns-in_default c =
 
 pub returns : goal.returns
 returns c =
-    let e = right_length _ _ _ (sym c.lengths_right.ensures ∙ not-false _ (ap not c.if-not-lengths_right.false))
+    let e = right_length _ _ _ (sym c.lengths_right.ensures ∙ c.if-not-lengths_right.false)
     ∙ files_refused _ _ c.check_files.ensures c.in-Err.is in
     record {
       answer = rw e c.refuse-2.ensures.value;
