@@ -1,8 +1,6 @@
 -- Judgements joined by `and`, as code makes them: it stops at the first that fails, and else goes on.
-use Prim.Native.Nat.{ℕ, ◌<◌, ◌≤◌}
 use mathlib.Core.Path.{◌≡◌, refl, sym}
 use mathlib.Core.Bool.{Bool, true, false, not}
-use lib.Dec.{eqb, leb, ltb}
 use borrow.Author.Tests.{eq-eqb, ne_eqb, lt-ltb, le-ltb, le-leb, lt-leb, not-true, not-false}
 use Rattle.logic.specs.Test.{◌and◌, ◌or◌}
 
@@ -45,17 +43,7 @@ module _ (r a : Bool) (e : r ≡ a) where
   pub passes : not r ≡ false → a ≡ true
   passes h = rw (← e) (not-false r h)
 
--- a chain of judgements r of a
-module _ (r a rest : Bool) (e : r ≡ a) where
-  pub chain_stops : not r ≡ true → a and rest ≡ false
-  unfolding ◌and◌
-  chain_stops h = rw (← e, not-true r h)
-
-  pub chain_goes_on : not r ≡ false → a and rest ≡ rest
-  unfolding ◌and◌
-  chain_goes_on h = rw (← e, not-false r h)
-
--- the same where the test is told
+-- what is joined to a test that is told
 module _ (a rest : Bool) where
   pub no : a ≡ false → a and rest ≡ false
   unfolding ◌and◌
@@ -64,33 +52,6 @@ module _ (a rest : Bool) where
   pub yes : a ≡ true → a and rest ≡ rest
   unfolding ◌and◌
   yes h = rw h
-
--- the same of a number r, read of x
-module _ (r x y : ℕ) (rest : Bool) (e : r ≡ x) where
-  pub equal_stops : (r ≡ y → ⊥) → eqb x y and rest ≡ false
-  equal_stops d = no (eqb x y) rest (rw (← e) (ne_eqb r y d))
-
-  pub equal_goes_on : r ≡ y → eqb x y and rest ≡ rest
-  equal_goes_on h = yes (eqb x y) rest (rw (← e) (eq-eqb r y h))
-
-  pub most_stops : y < r → leb x y and rest ≡ false
-  most_stops h = no (leb x y) rest (rw (← e) (lt-leb r y h))
-
-  pub most_goes_on : r ≤ y → leb x y and rest ≡ rest
-  most_goes_on h = yes (leb x y) rest (rw (← e) (le-leb r y h))
-
-  pub least_stops : r < y → leb y x and rest ≡ false
-  least_stops h = no (leb y x) rest (rw (← e) (lt-leb y r h))
-
-  pub least_goes_on : y ≤ r → leb y x and rest ≡ rest
-  least_goes_on h = yes (leb y x) rest (rw (← e) (le-leb y r h))
-
-module _ (x y : ℕ) (rest : Bool) where
-  pub low_stops : y ≤ x → ltb x y and rest ≡ false
-  low_stops h = no (ltb x y) rest (le-ltb x y h)
-
-  pub low_goes_on : x < y → ltb x y and rest ≡ rest
-  low_goes_on h = yes (ltb x y) rest (lt-ltb x y h)
 
 -- what `&&` and `||` of the code come to, by the first operand
 pub and_when_true : (b : Bool) → true and b ≡ b

@@ -34,7 +34,7 @@ unfolding all ◌and◌
 by_first p zero a = refl
 by_first p (suc n) a =
     let rest : all n (λ k. p (a + 1 + k)) ≡ all n (λ k. p (a + suc k)) =
-        all_same (λ k. p (a + 1 + k)) (λ k. p (a + suc k)) n (λ k low. let e : a + 1 + k ≡ a + suc k = omega arith in ap p e) in
+    all_same (λ k. p (a + 1 + k)) (λ k. p (a + suc k)) n (λ k low. let e : a + 1 + k ≡ a + suc k = omega arith in ap p e) in
     let here : a ≡ a + 0 = omega arith in
     go (p a) (p (a + 0)) (ap p here) (by_first p n (a + 1) ∙ rest) ∙ sym (all_front (λ k. p (a + k)) n)
   where
@@ -50,8 +50,8 @@ by_last p n = by_first p n 0 ∙ all_same (λ k. p (0 + k)) p n (λ k low. let e
 -- by what the call says that ran, and by what each call of the closure answers
 pub all_in_range : {F : Type 0} {g : Mut F (ℕ × Unit {0}) Bool} {f : F} {u : Range ℕ} {r : Bool} (test : ℕ → Bool) (n : ℕ)
     → (xs : List ℕ) × (o : Option ℕ) × (j : F) × YieldsThen nat_range_steps (record { start = 0; end = n }) xs o u
-        × FoldsTo (λ p x q. Called g p (x, tt) true q) f xs j
-        × MatchOption o (r ≡ true) (λ x. (r ≡ false) × ((h : F) × Called g j (x, tt) false h))
+    × FoldsTo (λ p x q. Called g p (x, tt) true q) f xs j
+    × MatchOption o (r ≡ true) (λ x. (r ≡ false) × ((h : F) × Called g j (x, tt) false h))
     → ((x : ℕ) (b : Bool) (q : F) → Called g f (x, tt) b q → (q ≡ f) × (b ≡ test x))
     → r ≡ all n test
 all_in_range {f = f} {u = u} {r = r} test n ran calls =
