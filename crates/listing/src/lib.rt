@@ -12,9 +12,12 @@ ghost use Rattle.buffers_tables.specs.Program.{program_length};
 ghost use Rattle.listing_cycle.specs.Changes.{piece_length, shown_length};
 ghost use Rattle.listing.specs.Standing.{Stands, Standing, Gives};
 
+use buffers_memory::Memory;
+use buffers_tables::{Panel, Program};
 use clock::Cycle;
 use file_stim::Cursor;
 use gates::TruthTables;
+use listing_cycle::{PieceLines, Shown};
 use session_state::Session;
 
 // A listing on its way: the open session, the next line of STIM, T, and how many pieces were given.
@@ -39,14 +42,13 @@ pub fn open(
     modfile: &[u8],
     stim: &[u8],
     lines: u16,
-    panel: &mut [u8],
-    program: &mut [u8],
-    memory: &mut [u8],
-    shown: &mut [u8],
+    panel: &mut Panel,
+    program: &mut Program,
+    memory: &mut Memory,
+    shown: &mut Shown,
 ) -> Lister
     requires accepted { Accepted panel_limit (files_of net.now modfile.now stim.now) }
     requires lines_value { lines ≡ stim_count stim.now }
-    requires panel_len { (length panel.old ≡ panel_length) × (length program.old ≡ program_length) × (length memory.old ≡ memory_length) × (length shown.old ≡ shown_length) }
     ensures { Stands (files_of net.now modfile.now stim.now) 0 result stim.now panel.new program.new memory.new shown.new }
 {
     buffers_load::load(net, modfile, stim, panel, program, memory);
@@ -66,7 +68,7 @@ pub fn open(
 pub fn piece_count(end: Cycle) -> u32
     ensures { result ≡ end.0 + 2 }
 {
-    (end.0 as u32) + 2
+    u32::from(end.0) + 2
 }
 
 impl Lister {
@@ -75,59 +77,38 @@ impl Lister {
         self,
         tables: &TruthTables,
         stim: &[u8],
-        panel: &mut [u8],
-        program: &[u8],
-        memory: &mut [u8],
-        shown: &mut [u8],
-        out: &mut [u8],
+        panel: &mut Panel,
+        program: &Program,
+        memory: &mut Memory,
+        shown: &mut Shown,
+        out: &mut PieceLines,
     ) -> Piece
-        requires standing { Standing self stim.now panel.old program.now memory.old shown.old }
-        requires out_len { length out.old ≡ piece_length }
+        requires { Standing self stim.now panel.old program.now memory.old shown.old }
         ensures { (files : Files) (k : ℕ) → Stands files k self stim.now panel.old program.now memory.old shown.old → Gives files k out.old result out.new stim.now panel.new program.now memory.new shown.new }
     {
-        let session = self.session;
-        let cursor = self.cursor;
-        let end = self.end;
-        let pieces = self.pieces;
-        let last = end.0;
-        if (last as u32) < pieces {
-            let length = writing::write_line(out, 0, &[last, 0, 0]);
-            return Piece {
-                lister: Lister {
-                    session,
-                    cursor,
-                    end,
-                    pieces: pieces + 1,
-                },
-                length,
+        if u32::from(self.end.0) < self.pieces {
+            let length = writing::write_line(out, 0, &[self.end.0, 0, 0]);
+            let lister = Lister {
+                pieces: self.pieces + 1,
+                ..self
             };
+            return Piece { lister, length };
         }
-        let time = Cycle(pieces as u16);
-        if pieces == 0 {
+        let time = Cycle(self.pieces as u16);
+        if self.pieces == 0 {
             let length = listing_cycle::write_changes(time, panel, memory, shown, out);
-            return Piece {
-                lister: Lister {
-                    session,
-                    cursor,
-                    end,
-                    pieces: 1,
-                },
-                length,
-            };
+            let lister = Lister { pieces: 1, ..self };
+            return Piece { lister, length };
         }
-        let settled = listing_cycle::take_settings(session, cursor, time, stim, panel);
-        let ready = settled.session;
-        let rest = settled.cursor;
-        let after = listing_cycle::run_one(tables, ready, panel, program, memory);
+        let settled = listing_cycle::take_settings(self.session, self.cursor, time, stim, panel);
+        let session = listing_cycle::run_one(tables, settled.session, panel, program, memory);
         let length = listing_cycle::write_changes(time, panel, memory, shown, out);
-        Piece {
-            lister: Lister {
-                session: after,
-                cursor: rest,
-                end,
-                pieces: pieces + 1,
-            },
-            length,
-        }
+        let lister = Lister {
+            session,
+            cursor: settled.cursor,
+            pieces: self.pieces + 1,
+            ..self
+        };
+        Piece { lister, length }
     }
 }

@@ -116,7 +116,7 @@ pub fn take_settings(
     requires line_bound { cursor.line ≤ stim_count stim.now }
     requires signals_high { signals_in panel.old ≤ 4096 }
     ensures fed { Fed stim.now panel.old time.0 cursor.line panel.new result.cursor.line }
-    ensures fact { result.cursor.line < stim_count stim.now → stim_time stim.now result.cursor.line ≡ time.0 → ⊥ }
+    ensures no_more { result.cursor.line < stim_count stim.now → stim_time stim.now result.cursor.line ≡ time.0 → ⊥ }
     ensures same_numbers { SameNumbers session result.session }
 {
     let mut session = session;

@@ -27,4 +27,4 @@ end_time-end-requires-clause-stimulus c = accepted_stimulus _ c.requires.accepte
 
 pub returns : goal.returns
 returns c =
-    opened _ c.requires.accepted _ _ _ _ _ c.load.ensures.panel_after c.load.ensures.program_after c.load.ensures.memory_after c.decode-session.ensures.0 c.first_later-cursor.ensures c.end_time-end.ensures refl (c.fill.ensures ∙ ap (λ (n : ℕ). listed n (λ a. not_shown)) c.requires.panel_len.3)
+    opened _ c.requires.accepted _ _ _ _ _ c.load.ensures.panel_after c.load.ensures.program_after c.load.ensures.memory_after c.decode-session.ensures.0 c.first_later-cursor.ensures c.end_time-end.ensures refl (c.fill.ensures ∙ ap (λ (n : ℕ). listed n (λ a. not_shown)) c.told-shown)

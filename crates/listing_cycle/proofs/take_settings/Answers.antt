@@ -18,8 +18,8 @@ loop-line-init c = record { fed = fed_starts _ _ _ _ (search rules) c.requires.l
 pub next_of-requires : goal.next_of-requires
 next_of-requires c = line_right _ _ c.requires.stimulus.passes _ c.loop-line.invariant.fed.few
 
-pub returns-clause-fact : goal.returns-clause-fact
-returns-clause-fact c =
+pub returns-clause-no_more : goal.returns-clause-no_more
+returns-clause-no_more c =
     none_at _ _ c.requires.stimulus.passes _ _ c.loop-line.invariant.fed.few (sym c.next_of.ensures ∙ c.in_default.is)
 
 pub set-told-requires : goal.set-told-requires
