@@ -15,8 +15,8 @@ loop-init g c =
 pub put-requires-clause-part_value : goal.put-requires-clause-part_value
 put-requires-clause-part_value g c = gives_next c.loop.invariant c.loop-test.true c.step-next.ensures
 
-pub step-next-requires-clause-standing : goal.step-next-requires-clause-standing
-step-next-requires-clause-standing g c = standing c.loop.invariant c.loop-test.true
+pub step-next-requires : goal.step-next-requires
+step-next-requires g c = standing c.loop.invariant c.loop-test.true
 
 pub loop-preserved : goal.loop-preserved
 loop-preserved g c = goes_on c.loop.invariant c.loop-test.true c.step-next.ensures c.put.ensures.counted c.if-printed.false
