@@ -1,8 +1,7 @@
 -- What stands past the counts in signals and values plays no part: with others that agree within them a call answers and leaves the same.
-use Prim.Native.Nat.{ℕ, zero, suc, ◌+◌, ◌-◌, ◌<◌}
-use mathlib.Core.Path.{◌≡◌, refl, sym, ◌∙◌, ap, ap₂}
+use Prim.Native.Nat.{ℕ, ◌+◌, ◌-◌, ◌<◌}
+use mathlib.Core.Path.{◌≡◌, sym, ◌∙◌, ap, ap₂}
 use mathlib.Core.List.{List, [], ◌∷◌, ◌++◌}
-use native.Mathlib.Omega.{arith}
 use lib.Dec.{leb}
 use lib.ListN.{length}
 use Rattle.logic.specs.Test.{◌and◌}
@@ -11,8 +10,8 @@ use Rattle.fields.specs.Line.{newline}
 use Rattle.writing.specs.Text.{field_text}
 use Rattle.model.specs.Refusal.{Check, first, unless}
 use Rattle.model.specs.Session.{same_lengths}
-use Rattle.model.specs.Listing.{joined}
 use Rattle.model.proofs.Refusals.{below_same}
+use Rattle.model.proofs.Demands.{joined_same}
 use Rattle.session_answers.specs.Answers.{check_bits}
 use Rattle.session_answers.specs.Recorded.{recorded_check}
 use Rattle.session_answers.specs.Left.{left_after}
@@ -20,12 +19,6 @@ use Rattle.charts.specs.Page.{line_columns, value_column, chosen, charted, glyph
 use Rattle.charts.specs.Text.{spaces, head_text, row_text, chart_row, page_text, printed_on}
 use Rattle.charts.specs.Checks.{chart_fixed, lent_check, counts_check, signal_check, signals_check, value_check, row_check, rows_check, chart_check}
 use Rattle.laws_charts.specs.Calls.{Charts}
-
--- pieces that agree
-joined_same : (n : ℕ) (f g : ℕ → List ℕ) → ((k : ℕ) → k < n → f k ≡ g k) → joined n f ≡ joined n g
-unfolding joined
-joined_same zero f g h = refl
-joined_same (suc n) f g h = ap₂ (λ (a b : List ℕ). a ++ b) (joined_same n f g (λ k l. h k (omega arith))) (h n (omega arith))
 
 -- signals and values that agree within the counts
 module _ (signals values signals' values' : List ℕ) (count cycles : ℕ) (same : (k : ℕ) → k < count → chosen signals k ≡ chosen signals' k)

@@ -1,6 +1,6 @@
 -- The machine's calls serve the session over the files' machine, on buffers that hold the files' network and module.
 use Prim.Native.Nat.{ℕ, ◌≤◌}
-use mathlib.Core.Path.{◌≡◌, sym, subst, ◌∙◌, ap}
+use mathlib.Core.Path.{◌≡◌, subst, ◌∙◌, ap}
 use mathlib.Core.Bool.{true}
 use native.Mathlib.Omega.{arith}
 use Rattle.model.specs.Network.{Network, Signal}
@@ -20,11 +20,11 @@ use Rattle.buffers_lengths.specs.Lengths.{fixed}
 use Rattle.session_answers.specs.Answers.{answer_bits}
 use Rattle.session_state.specs.Header.{head_in, with_head}
 use Rattle.session_calls.specs.Reply.{Buffers, lengths_of, Reply, reply}
-use Rattle.session_calls.proofs.Replies.{outcome_in, reply_40, reply_answer, Leaves, done, stays, reply_leaves}
+use Rattle.session_calls.proofs.Replies.{outcome_in, reply_40, reply_answer}
 use Rattle.laws_values.proofs.Same.{near_trans}
 use Rattle.laws_values.proofs.Valued.{written_near}
 use Rattle.laws_kept.proofs.Heads.{with_head_finished, with_head_hand, with_head_watched, with_head_mask}
-use Rattle.laws_kept.proofs.Replies.{reply_lengths, reply_ranged, reply_holding}
+use Rattle.laws_kept.proofs.Replies.{kept, reply_lengths, reply_ranged, reply_holding}
 use Rattle.laws_engine.proofs.Calls.{Refuses}
 use Rattle.laws_engine.proofs.Serving.{told, Serves}
 use Rattle.laws_demand3.specs.Lockstep.{lockstep_calls, working}
@@ -92,22 +92,15 @@ module _ {f : Network} {g : Module} (ok : Scheduled f g) (few : g.processors ≤
         (tables_step ok processor slot placed b.panel b.program good.holding) (outcome_in b c) does
     alike = tables_alike ok processor slot placed b.panel b.program good.holding (head_in b.panel) (memory_of b.memory) c good.watching
 
-    leaves : Leaves b c
-    leaves = reply_leaves b c good.lengths good.range
-
-    leaves_head : Leaves b c → Like f (head_in (reply b c).buffers.panel) does.head
-    leaves_head (done is) =
-        subst (λ (x : Buffers). Like f (head_in x.panel) does.head) (sym is)
+    reply_head : Like f (head_in (reply b c).buffers.panel) does.head
+    reply_head =
+        kept b c good.lengths good.range (λ x. Like f (head_in x.panel) does.head) (λ h w. subst (λ (x : Head). Like f x does.head) h alike.head)
         (like_trans f _ _ _ (head_back f g (outcome_in b c).head b good) alike.head)
-    leaves_head (stays is head state) =
-        subst (λ (x : Buffers). Like f (head_in x.panel) does.head) (sym is) (subst (λ (h : Head). Like f h does.head) head alike.head)
 
-    leaves_memory : Leaves b c → Near g (memory_of (reply b c).buffers.memory) does.state
-    leaves_memory (done is) =
-        subst (λ (x : Buffers). Near g (memory_of x.memory) does.state) (sym is)
+    reply_memory : Near g (memory_of (reply b c).buffers.memory) does.state
+    reply_memory =
+        kept b c good.lengths good.range (λ x. Near g (memory_of x.memory) does.state) (λ h w. subst (λ (x : Memory). Near g x does.state) w alike.state)
         (near_trans (written_near good.holding few short (outcome_in b c).state b.memory) alike.state)
-    leaves_memory (stays is head state) =
-        subst (λ (x : Buffers). Near g (memory_of x.memory) does.state) (sym is) (subst (λ (w : Memory). Near g w does.state) state alike.state)
 
   pub lockstep_serves : Serves lockstep_calls f machine working (Near g) (Good f g)
   lockstep_serves =
@@ -116,7 +109,7 @@ module _ {f : Network} {g : Module} (ok : Scheduled f g) (few : g.processors ≤
         lengths = λ b good. good.lengths;
         taken = λ b c good numbers. reply_taken b good.lengths good.range good.few c numbers;
         answer = λ b c good. reply_answer b c good.lengths good.range ∙ (alike b c good).answer;
-        head = λ b c good. leaves_head b c good (leaves b c good);
-        state = λ b c good. leaves_memory b c good (leaves b c good);
+        head = reply_head;
+        state = reply_memory;
         stays = reply_stays f g;
       }

@@ -18,8 +18,9 @@ use Rattle.session_answers.specs.Apart.{apart}
 use Rattle.session_answers.proofs.Bits.{AnswerOf, apart_bits}
 use Rattle.session_state.specs.Header.{head_in}
 use Rattle.session_calls.specs.Reply.{Buffers, lengths_of, reply}
-use Rattle.session_calls.proofs.Replies.{outcome_in, reply_answer, Leaves, done, stays, reply_leaves}
+use Rattle.session_calls.proofs.Replies.{outcome_in, reply_answer}
 use Rattle.laws_kept.proofs.Heads.{with_head_finished}
+use Rattle.laws_kept.proofs.Replies.{kept}
 use Rattle.laws_engine.specs.Lending.{kind_of, Has32}
 use Rattle.laws_engine.proofs.Telling.{command_few, command_of}
 
@@ -52,11 +53,6 @@ module _ (b : Buffers) (lengths : same_lengths (lengths_of b) fixed ≡ true) (r
   reply_taken c numbers = apart_bits (kind_of c) (reply b c).answer (reply_of c numbers)
 
   pub reply_few : (c : Call) → finished_in (reply b c).buffers.panel ≤ 65535
-  reply_few c = go (reply_leaves b c lengths range)
-    where
-      most : (outcome_in b c).head.finished ≤ 65535
-      most = command_few fixed n E (head_in b.panel) (memory_of b.memory) few c
-
-      go : Leaves b c → finished_in (reply b c).buffers.panel ≤ 65535
-      go (done is) = subst (λ (d : Buffers). finished_in d.panel ≤ 65535) (sym is) (omega (arith, with_head_finished (outcome_in b c).head b.panel, most))
-      go (stays is head state) = subst (λ (d : Buffers). finished_in d.panel ≤ 65535) (sym is) few
+  reply_few c =
+      kept b c lengths range (λ d. finished_in d.panel ≤ 65535) (λ h w. few)
+      (omega (arith, with_head_finished (outcome_in b c).head b.panel, command_few fixed n E (head_in b.panel) (memory_of b.memory) few c))

@@ -5,12 +5,13 @@ use mathlib.Core.Bool.{Bool, true, false}
 use Rattle.model.specs.Network.{Network}
 use Rattle.model.specs.Module.{Module}
 use Rattle.model.specs.Session.{Call, same_lengths}
-use Rattle.buffers_memory.specs.Memory.{within}
+use Rattle.buffers_memory.specs.Memory.{memory_of, within}
 use Rattle.buffers_memory.proofs.Written.{written_length}
 use Rattle.buffers_tables.specs.Panel.{processors_in, slots_in}
 use Rattle.buffers_tables.specs.Holding.{Holding}
 use Rattle.buffers_range.specs.Ranges.{ranged}
 use Rattle.buffers_range.proofs.Ranged.{memory_in_range, head_ranged_lem}
+use Rattle.session_state.specs.Header.{head_in}
 use Rattle.session_calls.specs.Reply.{Buffers, lengths_of, leaving, reply, Reply}
 use Rattle.laws_kept.proofs.Tables.{same_holding}
 use Rattle.laws_kept.proofs.Heads.{with_head_length, with_head_fixed}
@@ -22,13 +23,16 @@ use Rattle.laws_kept.proofs.Memories.{with_memory_values}
 use Rattle.laws_kept.proofs.Outcomes.{outcome_kept}
 
 module _ (b : Buffers) (c : Call) (lent : same_lengths (lengths_of b) fixed ≡ true) where
-  -- where 44 does not come, what holds of the buffers lent and of the outcome written into them holds of what a call leaves
-  kept : ranged b.panel b.program b.memory ≡ true → (P : Buffers → Type 0) → P b → P (leaving b (outcome_in b c)) → P (reply b c).buffers
+  -- where 44 does not come, what holds of the outcome written into the buffers holds of what a call leaves: of the buffers as lent, too, where
+  -- the outcome is what they have
+  pub kept : ranged b.panel b.program b.memory ≡ true → (P : Buffers → Type 0)
+      → ((outcome_in b c).head ≡ head_in b.panel → (outcome_in b c).state ≡ memory_of b.memory → P b)
+      → P (leaving b (outcome_in b c)) → P (reply b c).buffers
   kept r P here written = go (reply_leaves b c lent r)
     where
       go : Leaves b c → P (reply b c).buffers
       go (done is) = subst P (sym is) written
-      go (stays is head state) = subst P (sym is) here
+      go (stays is head state) = subst P (sym is) (here head state)
 
   left_lengths : same_lengths (lengths_of (leaving b (outcome_in b c))) fixed ≡ true
   left_lengths =
@@ -43,7 +47,7 @@ module _ (b : Buffers) (c : Call) (lent : same_lengths (lengths_of b) fixed ≡ 
   reply_lengths = go (ranged b.panel b.program b.memory) refl
     where
       go : (t : Bool) → ranged b.panel b.program b.memory ≡ t → same_lengths (lengths_of (reply b c).buffers) fixed ≡ true
-      go true r = kept r (λ d. same_lengths (lengths_of d) fixed ≡ true) lent left_lengths
+      go true r = kept r (λ d. same_lengths (lengths_of d) fixed ≡ true) (λ h w. lent) left_lengths
       go false r = subst (λ (d : Buffers). same_lengths (lengths_of d) fixed ≡ true) (sym (ap (λ (x : Reply). x.buffers) (reply_44 b c lent r))) lent
 
   module _ (r : ranged b.panel b.program b.memory ≡ true) where
@@ -54,7 +58,7 @@ module _ (b : Buffers) (c : Call) (lent : same_lengths (lengths_of b) fixed ≡ 
         (memory_in_range b.panel b.program b.memory r))
 
     pub reply_ranged : ranged (reply b c).buffers.panel (reply b c).buffers.program (reply b c).buffers.memory ≡ true
-    reply_ranged = kept r (λ d. ranged d.panel d.program d.memory ≡ true) r left_ranged
+    reply_ranged = kept r (λ d. ranged d.panel d.program d.memory ≡ true) (λ h w. r) left_ranged
 
     module _ {n : Network} {m : Module} (holding : Holding n m b.panel b.program) where
       left_holding : Holding n m (leaving b (outcome_in b c)).panel b.program
@@ -63,4 +67,4 @@ module _ (b : Buffers) (c : Call) (lent : same_lengths (lengths_of b) fixed ≡ 
           (head_ranged_lem b.panel b.program b.memory r).signals_high holding
 
       pub reply_holding : Holding n m (reply b c).buffers.panel (reply b c).buffers.program
-      reply_holding = kept r (λ d. Holding n m d.panel d.program) holding left_holding
+      reply_holding = kept r (λ d. Holding n m d.panel d.program) (λ h w. holding) left_holding
