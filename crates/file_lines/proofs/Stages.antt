@@ -1,11 +1,11 @@
 -- The stages of a check, joined by `first`: an answer that refuses is the whole check's (`stops`), and one that accepts leaves the
 -- check to the next stage (`passes`, `after`).
 use Prim.Native.Nat.{ℕ}
-use mathlib.Core.Path.{◌≡◌, refl, sym, ap, ◌∙◌}
+use mathlib.Core.Path.{◌≡◌, sym, ap, ◌∙◌}
 use native.Mathlib.Omega.{arith}
 use Rattle.std.specs.Prelude.{Result, Ok, Err}
 use Rattle.model.specs.Refusal.{Check, pass, fail, first}
-use Rattle.model.proofs.Refusals.{pass_not_fail, first_second, first_stays}
+use Rattle.model.proofs.Refusals.{pass_not_fail, first_left, first_second, first_failed}
 use Rattle.file_lines.specs.Answer.{answered, Answers}
 
 -- no answer both refuses and accepts
@@ -33,11 +33,8 @@ module _ {A E : Type 0} {refusal : E → Check} where
   -- a check that fails answers for those after it
   pub stays : {x : A} {r : Result A E} {check : Check} (rest : Check) → answered refusal r ≡ check → (check ≡ pass → ⊥)
       → Answers refusal x (first check rest) r
-  stays {x} {r} {check} rest e fails = go check refl
-    where
-      go : (k : Check) → check ≡ k → Answers refusal x (first check rest) r
-      go pass q = absurd (fails q)
-      go (fail number returned) q = refused (e ∙ q) (first_stays check rest q)
+  stays {check = check} rest e fails =
+      record { refuses = e ∙ sym (first_failed check rest fails); accepts = λ p. absurd (fails (first_left check rest p)) }
 
   -- the next stage answers where one has passed
   pub after : {x : A} {r : Result A E} {check rest : Check} → check ≡ pass → Answers refusal x rest r → Answers refusal x (first check rest) r

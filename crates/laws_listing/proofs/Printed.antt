@@ -2,7 +2,7 @@
 -- first one, and bytes past those that are read change nothing. So demand 2 holds of every such text. That there is one is `Inhabited`, and
 -- that the program hands these bytes to its writer is a contract of crates/cavundir.
 use Prim.Native.Nat.{ℕ, zero, suc, ◌+◌, ◌*◌, ◌<◌, ◌≤◌}
-use mathlib.Core.Path.{◌≡◌, refl, sym, subst, ◌∙◌, ap}
+use mathlib.Core.Path.{◌≡◌, refl, sym, ◌∙◌, ap, ap₂}
 use mathlib.Core.List.{List, [], ◌∷◌, ◌++◌, append_assoc, append-nil}
 use native.Mathlib.Omega.{arith}
 use native.Mathlib.Nat.{mul-le-mul}
@@ -19,7 +19,7 @@ use Rattle.model.specs.Stimulus.{stim_check, end_time}
 use Rattle.model.specs.Acceptance.{panel_limit, network_of, file_check, Accepted}
 use Rattle.model.specs.Listing.{value_at, joined, listed_first, listed_cycle, listing_of, listing, printed_for, printed}
 use Rattle.model.specs.Demands.{Demand2}
-use Rattle.model.proofs.Refusals.{pass_not_fail, first_stays, first_second}
+use Rattle.model.proofs.Refusals.{first_stays, first_second, first_failed}
 use Rattle.model.proofs.Accepted.{net_accepted, mod_accepted, stim_accepted, net_size_lem, net_length, mod_processors_lem, mod_slots_lem, mod_length, stim_right}
 use Rattle.model.proofs.Demands.{joined_same, printed_demand_2}
 use Rattle.laws_prefix.proofs.Net.{net_prefix}
@@ -150,50 +150,15 @@ module _ (files : Files) where
   abbrev read : Files
   read = first_bytes files
 
-  -- one refusal, the first
-  net_check_lem : (net_check panel_limit read.NET ≡ pass → ⊥) → file_check panel_limit files ≡ net_check panel_limit read.NET
-  unfolding file_check
-  net_check_lem d = go (net_check panel_limit read.NET) refl
-    where
-      go : (c : Check) → net_check panel_limit read.NET ≡ c → file_check panel_limit files ≡ net_check panel_limit read.NET
-      go pass e = absurd (d e)
-      go (fail number returned) e = first_stays (net_check panel_limit files.NET) _ (sym (net_prefix panel_limit (omega arith) files.NET) ∙ e) ∙ sym e
+  net_same : net_check panel_limit read.NET ≡ net_check panel_limit files.NET
+  net_same = net_prefix panel_limit (omega arith) files.NET
 
   module _ (net : net_check panel_limit read.NET ≡ pass) where
-    net_same : read.NET ≡ files.NET
-    net_same = net_whole files.NET net
-
-    net_passes : net_check panel_limit files.NET ≡ pass
-    net_passes = sym (net_prefix panel_limit (omega arith) files.NET) ∙ net
-
     mod_same : mod_check (network_of read) read.MOD ≡ mod_check (network_of files) files.MOD
-    mod_same = mod_prefix (network_of read) files.MOD ∙ ap (λ (x : List ℕ). mod_check (network x) files.MOD) net_same
+    mod_same = mod_prefix (network_of read) files.MOD ∙ ap (λ (x : List ℕ). mod_check (network x) files.MOD) (net_whole files.NET net)
 
     stim_same : stim_check (network_of read) read.STIM ≡ stim_check (network_of files) files.STIM
-    stim_same = stim_prefix (network_of read) files.STIM ∙ ap (λ (x : List ℕ). stim_check (network x) files.STIM) net_same
-
-    mod_check_lem : (mod_check (network_of read) read.MOD ≡ pass → ⊥) → file_check panel_limit files ≡ mod_check (network_of read) read.MOD
-    unfolding file_check
-    mod_check_lem d = go (mod_check (network_of read) read.MOD) refl
-      where
-        go : (c : Check) → mod_check (network_of read) read.MOD ≡ c → file_check panel_limit files ≡ mod_check (network_of read) read.MOD
-        go pass e = absurd (d e)
-        go (fail number returned) e =
-            first_second (net_check panel_limit files.NET) _ net_passes
-            ∙ first_stays (mod_check (network_of files) files.MOD) _ (sym mod_same ∙ e) ∙ sym e
-
-    stim_check_lem : mod_check (network_of read) read.MOD ≡ pass → file_check panel_limit files ≡ stim_check (network_of read) read.STIM
-    unfolding file_check
-    stim_check_lem m =
-        first_second (net_check panel_limit files.NET) _ net_passes
-        ∙ first_second (mod_check (network_of files) files.MOD) _ (sym mod_same ∙ m) ∙ sym stim_same
-
-  -- accepted as they were read, the files were read whole
-  pub read_whole : Accepted panel_limit read → read ≡ files
-  read_whole accepted =
-      ap (λ (x : List ℕ). files_of x read.MOD read.STIM) (net_whole files.NET (net_accepted panel_limit read accepted))
-      ∙ ap (λ (x : List ℕ). files_of files.NET x read.STIM) (mod_whole read.NET files.MOD (mod_accepted panel_limit read accepted))
-      ∙ ap (files_of files.NET files.MOD) (stim_whole read.NET files.STIM (stim_accepted panel_limit read accepted))
+    stim_same = stim_prefix (network_of read) files.STIM ∙ ap (λ (x : List ℕ). stim_check (network x) files.STIM) (net_whole files.NET net)
 
   -- the bytes read are judged as the whole files, and the same is printed for them
   pub read_check : file_check panel_limit read ≡ file_check panel_limit files
@@ -201,13 +166,15 @@ module _ (files : Files) where
   read_check = go (net_check panel_limit read.NET) refl
     where
       go : (c : Check) → net_check panel_limit read.NET ≡ c → file_check panel_limit read ≡ file_check panel_limit files
-      go pass e =
-          first_second (net_check panel_limit read.NET) _ e
-          ∙ ap (λ (x : Check). first x (stim_check (network_of read) read.STIM)) (mod_same e)
-          ∙ ap (first (mod_check (network_of files) files.MOD)) (stim_same e)
-          ∙ sym (first_second (net_check panel_limit files.NET) _ (net_passes e))
-      go (fail number returned) e =
-          first_stays (net_check panel_limit read.NET) _ e ∙ sym (net_check_lem (λ q. pass_not_fail (sym q ∙ e)) ∙ e)
+      go pass e = ap₂ first net_same (ap₂ first (mod_same e) (stim_same e))
+      go (fail number returned) e = first_stays _ _ e ∙ sym (first_stays (net_check panel_limit files.NET) _ (sym net_same ∙ e))
+
+  -- accepted as they were read, the files were read whole
+  pub read_whole : Accepted panel_limit read → read ≡ files
+  read_whole accepted =
+      ap (λ (x : List ℕ). files_of x read.MOD read.STIM) (net_whole files.NET (net_accepted panel_limit read accepted))
+      ∙ ap (λ (x : List ℕ). files_of files.NET x read.STIM) (mod_whole read.NET files.MOD (mod_accepted panel_limit read accepted))
+      ∙ ap (files_of files.NET files.MOD) (stim_whole read.NET files.STIM (stim_accepted panel_limit read accepted))
 
   pub read_printed : printed panel_limit read ≡ printed panel_limit files
   unfolding printed printed_for
@@ -219,17 +186,16 @@ module _ (files : Files) where
 
   -- A text by the contracts of the functions, in the order in which the program calls them, is `printed` of the whole files
   pub program_prints : (text : List ℕ) → Prints read text → text ≡ printed panel_limit files
-  program_prints text (net_refused said e d) = refused_is said (net_check panel_limit read.NET) files e d (net_check_lem d)
-  program_prints text (mod_refused net said e d) = refused_is said (mod_check (network_of read) read.MOD) files e d (mod_check_lem net d)
-  program_prints text (stim_refused net m said e d) = refused_is said (stim_check (network_of read) read.STIM) files e d (stim_check_lem net m)
+  unfolding file_check
+  program_prints text (net_refused said e d) = refused_is said _ read e d (first_failed _ _ d) ∙ read_printed
+  program_prints text (mod_refused net said e d) = refused_is said _ read e d (first_second _ _ net ∙ first_failed _ _ d) ∙ read_printed
+  program_prints text (stim_refused net m said e d) = refused_is said _ read e d (first_second _ _ net ∙ first_second _ _ m) ∙ read_printed
   program_prints text (listed accepted {pieces = pieces} stands steps count) =
       ap in_order (steps_give read 0 steps (omega arith) (λ h. stands))
       ∙ ap (λ (n : ℕ). in_order (pieces_from (piece_at read) 0 n)) count
       ∙ pieces_listed read
-      ∙ lists
-    where
-      lists : listing read ≡ printed panel_limit files
-      lists = subst (λ (x : Files). listing x ≡ printed panel_limit files) (sym (read_whole accepted)) (accepted_prints files (subst (Accepted panel_limit) (read_whole accepted) accepted))
+      ∙ accepted_prints read accepted
+      ∙ read_printed
 
 -- Demand 2 of whatever is printed by these contracts
 pub program_demand_2 : (prints : Files → List ℕ) → ((files : Files) → Prints (first_bytes files) (prints files)) → Demand2 panel_limit prints

@@ -35,6 +35,12 @@ pub first_stays : (a b : Check) {number returned : ℕ} → a ≡ fail number re
 unfolding first
 first_stays a b p = rw p
 
+-- one that does not pass answers for those after it
+pub first_failed : (a b : Check) → (a ≡ pass → ⊥) → first a b ≡ a
+unfolding first
+first_failed pass b d = absurd (d refl)
+first_failed (fail number returned) b d = refl
+
 pub first_fail : (a b : Check) {number returned : ℕ} → first a b ≡ fail number returned
     → (a ≡ fail number returned) ⊎ ((a ≡ pass) × (b ≡ fail number returned))
 unfolding first
