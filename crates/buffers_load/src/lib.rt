@@ -2,16 +2,13 @@
 
 #![tactic(auto)]
 
-ghost use Rattle.std.specs.Prelude.{◌≡◌, length};
+ghost use Rattle.std.specs.Prelude.{◌≡◌};
 ghost use Rattle.model.specs.Refusal.{pass};
 ghost use Rattle.model.specs.Files.{files_of};
 ghost use Rattle.model.specs.Netlist.{network};
 ghost use Rattle.model.specs.Stimulus.{stim_check};
 ghost use Rattle.model.specs.ModuleFile.{mod_check};
 ghost use Rattle.model.specs.Checked.{Checked};
-ghost use Rattle.buffers_memory.specs.Memory.{memory_length};
-ghost use Rattle.buffers_tables.specs.Panel.{panel_length};
-ghost use Rattle.buffers_tables.specs.Program.{program_length};
 ghost use Rattle.buffers_load_files.specs.Loaded.{panel_of, program_of, opening_bytes};
 
 use buffers_memory::Memory;

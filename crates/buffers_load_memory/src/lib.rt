@@ -2,7 +2,7 @@
 
 #![tactic(auto)]
 
-ghost use Rattle.std.specs.Prelude.{◌≡◌, ◌<◌, length, get_or};
+ghost use Rattle.std.specs.Prelude.{◌≡◌, ◌<◌, get_or};
 ghost use Rattle.model.specs.ModuleFile.{module_of};
 ghost use Rattle.model.specs.Value.{value_of};
 ghost use Rattle.file_mod_table.specs.Line.{Within};

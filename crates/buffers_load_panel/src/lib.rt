@@ -2,7 +2,7 @@
 
 #![tactic(auto)]
 
-ghost use Rattle.std.specs.Prelude.{◌≡◌, ℕ, ◌<◌, ◌≤◌, length, get_or};
+ghost use Rattle.std.specs.Prelude.{◌≡◌, ℕ, ◌<◌, ◌≤◌, get_or};
 ghost use Rattle.logic.specs.Listed.{listed};
 ghost use Rattle.model.specs.Netlist.{net_size, net_field, codes};
 ghost use Rattle.model.specs.Checked.{Checked};

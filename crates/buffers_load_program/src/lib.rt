@@ -2,7 +2,7 @@
 
 #![tactic(auto)]
 
-ghost use Rattle.std.specs.Prelude.{◌≡◌, ◌<◌, length, get_or};
+ghost use Rattle.std.specs.Prelude.{◌≡◌, ◌<◌, get_or};
 ghost use Rattle.model.specs.ModuleFile.{module_of};
 ghost use Rattle.file_mod_table.specs.Line.{Within};
 ghost use Rattle.buffers_tables.specs.Program.{program_length, line_stride, line_bytes, line_processor, line_slot, line_column};

@@ -2,11 +2,11 @@
 
 #![tactic(auto)]
 
-ghost use Rattle.std.specs.Prelude.{◌≡◌, ◌+◌, ◌*◌, ◌<◌, ◌≤◌, length, set};
+ghost use Rattle.std.specs.Prelude.{◌≡◌, ◌*◌, ◌<◌, ◌≤◌, set};
 ghost use Rattle.gates.specs.Value.{Code};
 ghost use Rattle.model.specs.Machine.{fetch as fetched, alternate as alternated};
 ghost use Rattle.instruction.specs.Operand.{part_of, location_of};
-ghost use Rattle.buffers_memory.specs.Memory.{memory_length, part_stride, blank, place, memory_of, fetched_part, written, here, below, with_memory, MemoryBytes};
+ghost use Rattle.buffers_memory.specs.Memory.{part_stride, blank, place, memory_of, fetched_part, written, here, below, with_memory, MemoryBytes};
 
 use instruction::Operand;
 

@@ -2,10 +2,7 @@
 
 #![tactic(auto)]
 
-ghost use Rattle.std.specs.Prelude.{◌≡◌, length};
-ghost use Rattle.buffers_memory.specs.Memory.{memory_length};
-ghost use Rattle.buffers_tables.specs.Panel.{panel_length};
-ghost use Rattle.buffers_tables.specs.Program.{program_length};
+ghost use Rattle.std.specs.Prelude.{◌≡◌};
 ghost use Rattle.buffers_range.specs.Ranges.{ranged};
 
 use buffers_memory::Memory;

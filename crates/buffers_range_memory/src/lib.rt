@@ -3,8 +3,8 @@
 #![tactic(auto)]
 
 ghost use Rattle.std.specs.Prelude.{◌≡◌, ◌+◌, ◌<◌, ◌≤◌, length};
-ghost use Rattle.buffers_memory.specs.Memory.{memory_length, part_stride, memory_parts};
-ghost use Rattle.buffers_tables.specs.Panel.{panel_length, slots_in};
+ghost use Rattle.buffers_memory.specs.Memory.{part_stride, memory_parts};
+ghost use Rattle.buffers_tables.specs.Panel.{slots_in};
 ghost use Rattle.buffers_range_memory.specs.Ranges.{memory_ranged};
 ghost use Rattle.buffers_range_memory.specs.Order.{values_in, part_at, parts_at};
 

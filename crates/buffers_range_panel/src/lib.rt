@@ -2,9 +2,9 @@
 
 #![tactic(auto)]
 
-ghost use Rattle.std.specs.Prelude.{◌≡◌, ◌+◌, ◌-◌, ◌*◌, ◌≤◌, leb, length};
+ghost use Rattle.std.specs.Prelude.{◌≡◌, ◌+◌, ◌-◌, ◌*◌, ◌≤◌, leb};
 ghost use Rattle.logic.specs.Test.{◌and◌, all};
-ghost use Rattle.buffers_tables.specs.Panel.{panel_length, panel_stride, signal_start};
+ghost use Rattle.buffers_tables.specs.Panel.{panel_stride, signal_start};
 ghost use Rattle.buffers_runs.specs.Zeros.{zeros};
 ghost use Rattle.buffers_range_panel.specs.Ranges.{head_ranged, codes_ranged, signal_ranged, panel_ranged};
 

@@ -2,9 +2,9 @@
 
 #![tactic(auto)]
 
-ghost use Rattle.std.specs.Prelude.{◌≡◌, ◌+◌, ◌<◌, ◌≤◌, eqb, leb, length};
+ghost use Rattle.std.specs.Prelude.{◌≡◌, ◌+◌, ◌<◌, ◌≤◌, eqb, leb};
 ghost use Rattle.logic.specs.Test.{one};
-ghost use Rattle.buffers_tables.specs.Panel.{panel_length, processors_in, slots_in};
+ghost use Rattle.buffers_tables.specs.Panel.{processors_in, slots_in};
 ghost use Rattle.buffers_tables.specs.Program.{program_length, line_stride};
 ghost use Rattle.buffers_range_program.specs.Ranges.{program_ranged};
 ghost use Rattle.buffers_range_program.specs.Order.{pair_at, operands_at, line_at, slot_at, slots_at};

@@ -12,7 +12,7 @@ ghost use Rattle.session_answers.specs.Answers.{check_bits};
 ghost use Rattle.session_answers.specs.Left.{left_after, Leaves};
 ghost use Rattle.charts.specs.Page.{page_signals, page_cycles, line_bytes, charted, glyph as glyph_of, last_cycle};
 ghost use Rattle.charts.specs.Text.{spaces, head_text, row_text, chart_row, page_text, printed_on};
-ghost use Rattle.charts.specs.Checks.{counts_check, signals_check, row_check, rows_check, chart_check};
+ghost use Rattle.charts.specs.Checks.{counts_check, signals_check, rows_check, chart_check};
 ghost use Rattle.charts.specs.Answer.{chart_refusal};
 
 use clock::Cycle;

@@ -2,7 +2,7 @@
 
 #![tactic(auto)]
 
-ghost use Rattle.std.specs.Prelude.{◌≡◌, ℕ, Bool, ◌<◌, ◌≤◌, length, get_or};
+ghost use Rattle.std.specs.Prelude.{◌≡◌, ℕ, Bool, ◌≤◌, get_or};
 ghost use Rattle.model.specs.Network.{Network};
 ghost use Rattle.model.specs.Netlist.{net_size, network};
 ghost use Rattle.model.specs.Module.{placements};

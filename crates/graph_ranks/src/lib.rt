@@ -2,7 +2,7 @@
 
 #![tactic(auto)]
 
-ghost use Rattle.std.specs.Prelude.{◌≡◌, ◌+◌, ◌*◌, ◌<◌, ◌≤◌, List, [], length, get_or, MatchOption};
+ghost use Rattle.std.specs.Prelude.{◌≡◌, ◌+◌, ◌*◌, ◌<◌, ◌≤◌, [], length, get_or, MatchOption};
 ghost use Rattle.graph_ranks.specs.Graph.{places, IsGraph};
 ghost use Rattle.graph_ranks.specs.Ranks.{OpenFeeder, OpenAt, Ranked, RankAbove};
 ghost use Rattle.graph_ranks.specs.Descent.{Nodes, lined_up};

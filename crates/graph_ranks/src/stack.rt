@@ -1,6 +1,6 @@
 // A stack of numbers of a fixed size.
 
-ghost use Rattle.std.specs.Prelude.{◌≡◌, ℕ, ◌+◌, ◌<◌, ◌≤◌, List, [], ◌∷◌, length, MatchOption};
+ghost use Rattle.std.specs.Prelude.{◌≡◌, ℕ, ◌<◌, ◌≤◌, List, [], ◌∷◌, length, MatchOption};
 ghost use Rattle.graph_ranks.specs.Held.{held};
 
 use std::marker::Model;

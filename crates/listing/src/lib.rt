@@ -2,14 +2,10 @@
 
 #![tactic(auto)]
 
-ghost use Rattle.std.specs.Prelude.{◌≡◌, ℕ, ◌+◌, length};
+ghost use Rattle.std.specs.Prelude.{◌≡◌, ℕ, ◌+◌};
 ghost use Rattle.model.specs.Files.{Files, files_of};
 ghost use Rattle.model.specs.Acceptance.{panel_limit, Accepted};
 ghost use Rattle.model.specs.Stimulus.{stim_count};
-ghost use Rattle.buffers_memory.specs.Memory.{memory_length};
-ghost use Rattle.buffers_tables.specs.Panel.{panel_length};
-ghost use Rattle.buffers_tables.specs.Program.{program_length};
-ghost use Rattle.listing_cycle.specs.Changes.{piece_length, shown_length};
 ghost use Rattle.listing.specs.Standing.{Stands, Standing, Gives};
 
 use buffers_memory::Memory;

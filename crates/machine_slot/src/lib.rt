@@ -10,7 +10,6 @@ ghost use Rattle.buffers_memory.specs.Memory.{memory_of, place, with_memory, wri
 ghost use Rattle.buffers_tables.specs.Panel.{processors_in, slots_in, codes_in};
 ghost use Rattle.buffers_tables.specs.Program.{instruction_in};
 ghost use Rattle.buffers_tables.specs.Tables.{Tables};
-ghost use Rattle.machine_slot.specs.Single.{tables_single};
 ghost use Rattle.machine_slot.specs.Storing.{gate_on, evaluated_on, evaluated, FirstAre, storing, stored_if, received_stored, passed};
 
 use buffers_memory::{LOCAL_PRESENT, Memory, SWITCH_PRESENT};
