@@ -27,7 +27,7 @@ class Function:
 # a comment, a text, a byte in quotes: none of their brackets count
 HIDDEN = re.compile(r"""//[^\n]*|/\*.*?\*/|"(?:\\.|[^"\\])*"|\bb'(?:\\x..|\\.|[^\\'\n])'""", re.S)
 FUNCTION = re.compile(r'(\bpub\s+)?(\bextern\s+"C"\s+)?\bfn\s+(\w+)')
-IMPL = re.compile(r"^\s*impl\b[^{;]*?(\w+)\s*\{", re.M)  # not a parameter's `&impl Trait`
+IMPL = re.compile(r"^\s*impl\b[^{;]*?(\w+)(?:<[^{;]*>)?\s*\{", re.M)  # not a parameter's `&impl Trait`
 # what can stand between a function's parameters and its body: a clause, or a bracket of the result's type
 AFTER_PARAMETERS = re.compile(r"\b(ghost|requires|ensures)\b|[(\[{;]")
 

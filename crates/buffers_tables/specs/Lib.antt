@@ -3,3 +3,4 @@ pub mod Stores
 pub mod Program
 pub mod Tables
 pub mod Holding
+pub mod Decoded

@@ -2,9 +2,6 @@
 -- number and two for the signal. The lines of a slot stand together, since all processors execute it at once.
 use Rattle.std.specs.Prelude.{ℕ, ◌+◌, ◌*◌, ◌/◌, ◌%◌, List, [], ◌∷◌, get_or}
 use Rattle.model.specs.Module.{Module}
-use Rattle.instruction.specs.Operand.{operand_of}
-use Rattle.instruction.specs.Sender.{sender_numbered}
-use Rattle.instruction.specs.declared.Instruction.{Instruction}
 use Rattle.words.specs.Word.{word}
 
 abbrev pub program_length : ℕ
@@ -74,19 +71,6 @@ send_location_at program p i = get_or program (line_in p i + (send_column + 1)) 
 
 abbrev pub sender_at : List ℕ → ℕ → ℕ → ℕ
 sender_at program p i = get_or program (line_in p i + sender_column) 0
-
--- the line as an instruction
-abbrev pub instruction_in : List ℕ → ℕ → ℕ → Instruction
-instruction_in program p i =
-    record {
-      signal = signal_at program p i;
-      a1 = operand_of (part_at program p i 0) (location_at program p i 0);
-      a2 = operand_of (part_at program p i 1) (location_at program p i 1);
-      a3 = operand_of (part_at program p i 2) (location_at program p i 2);
-      a4 = operand_of (part_at program p i 3) (location_at program p i 3);
-      send = operand_of (send_part_at program p i) (send_location_at program p i);
-      sender = sender_numbered (sender_at program p i);
-    }
 
 -- the bytes of a line in their order: its signal, the pairs of its operands and of its send, the processor received from
 abbrev pub line_bytes : Module → ℕ → ℕ → List ℕ

@@ -6,7 +6,8 @@ ghost use Rattle.std.specs.Prelude.{◌≡◌, ◌+◌, ◌<◌, ◌≤◌, leng
 ghost use Rattle.instruction.specs.Operand.{operand_of};
 ghost use Rattle.buffers_tables.specs.Panel.{finished_place, watched_place, signals_in, processors_in, slots_in, finished_in, watched_in, mask_in, kind_in, codes_in, hand_in, processor_in, slot_in};
 ghost use Rattle.buffers_tables.specs.Stores.{with_finished, with_watch, with_hand};
-ghost use Rattle.buffers_tables.specs.Program.{program_length, line_stride, line_in, signal_at, instruction_in};
+ghost use Rattle.buffers_tables.specs.Program.{program_length, line_stride, line_in, signal_at};
+ghost use Rattle.buffers_tables.specs.Decoded.{instruction_in};
 
 use clock::Slot;
 use gates::Gate;

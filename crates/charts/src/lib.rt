@@ -9,7 +9,8 @@ ghost use Rattle.logic.specs.Listed.{listed};
 ghost use Rattle.model.specs.Listing.{joined};
 ghost use Rattle.file_lines.specs.Answer.{Answers};
 ghost use Rattle.session_answers.specs.Answers.{check_bits};
-ghost use Rattle.session_answers.specs.Left.{left_after, Leaves};
+ghost use Rattle.session_answers.specs.Leaves.{Leaves};
+ghost use Rattle.session_answers.specs.Left.{left_after};
 ghost use Rattle.charts.specs.Page.{page_signals, page_cycles, line_bytes, charted, glyph as glyph_of, last_cycle};
 ghost use Rattle.charts.specs.Text.{spaces, head_text, row_text, chart_row, page_text, printed_on};
 ghost use Rattle.charts.specs.Checks.{counts_check, signals_check, rows_check, chart_check};
@@ -217,7 +218,7 @@ impl<'a> Plot<'a> {
     }
 
     // A line for each chosen signal, behind the first line.
-    fn write_rows(&self, page: &mut [u8; PAGE_BYTES])
+    fn fill_rows(&self, page: &mut [u8; PAGE_BYTES])
         ensures { page.new ≡ sets page.old line_bytes (joined self.now.count (chart_row self.now.signals.now self.now.values.now self.now.cycles)) }
     {
         let signals = self.signals;
@@ -228,12 +229,12 @@ impl<'a> Plot<'a> {
     }
 
     // The whole text of a page.
-    fn write_page(&self, page: &mut [u8; PAGE_BYTES])
+    fn fill_page(&self, page: &mut [u8; PAGE_BYTES])
         ensures { page.new ≡ printed_on page.old (page_text self.now.signals.now self.now.values.now self.now.count self.now.first.0 self.now.cycles) }
     {
         let last = Cycle(self.first.0 + ((self.cycles - 1) as u16));
         write_head(page, self.first, last);
-        self.write_rows(page);
+        self.fill_rows(page);
     }
 }
 
@@ -264,7 +265,7 @@ fn chart_checked(
     };
     plot.check_signals()?;
     plot.check_values()?;
-    plot.write_page(page);
+    plot.fill_page(page);
     Ok(())
 }
 

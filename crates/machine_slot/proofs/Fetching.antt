@@ -15,7 +15,8 @@ use Rattle.model.specs.Module.{At, no_sender}
 use Rattle.model.specs.Machine.{Memory, fetch, operand, result, sent}
 use Rattle.instruction.specs.Operand.{operand_of, part_of, location_of}
 use Rattle.buffers_tables.specs.Panel.{processors_in, slots_in, codes_in, hand_in}
-use Rattle.buffers_tables.specs.Program.{signal_at, part_at, location_at, sender_at, instruction_in}
+use Rattle.buffers_tables.specs.Program.{signal_at, part_at, location_at, sender_at}
+use Rattle.buffers_tables.specs.Decoded.{instruction_in}
 use Rattle.buffers_tables.specs.Tables.{network_in, module_in, Tables}
 use Rattle.machine_slot.specs.Storing.{gate_on, evaluated_on, evaluated}
 

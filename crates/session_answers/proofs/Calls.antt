@@ -14,7 +14,7 @@ use Rattle.model.proofs.Refusals.{first_fail, unless_false, below_fail}
 use Rattle.file_lines.specs.Answer.{answered, Answers}
 use Rattle.file_lines.proofs.Stages.{refuses}
 use Rattle.session_answers.specs.Answers.{answer_bits, check_bits}
-use Rattle.session_answers.specs.Left.{Leaves}
+use Rattle.session_answers.specs.Leaves.{Leaves}
 use Rattle.session_answers.specs.Recorded.{recorded_check}
 use Rattle.session_answers.proofs.Left.{left_done, left_refused}
 

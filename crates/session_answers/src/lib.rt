@@ -7,7 +7,8 @@ ghost use Rattle.model.specs.Session.{refused};
 ghost use Rattle.file_lines.specs.Answer.{answered, Answers};
 ghost use Rattle.session_answers.specs.Recorded.{recorded_checks};
 ghost use Rattle.session_answers.specs.Refusals.{recorded_refusal};
-ghost use Rattle.session_answers.specs.Answers.{call_answer, answer_bits, check_bits};
+ghost use Rattle.session_answers.specs.Answers.{answer_bits, check_bits};
+ghost use Rattle.session_answers.specs.Replies.{call_answer};
 
 use clock::Cycle;
 use file_lines::Refusal;

@@ -15,7 +15,8 @@ use Rattle.buffers_tables.specs.Tables.{network_in, module_in}
 use Rattle.buffers_range.specs.Ranges.{ranged}
 use Rattle.file_lines.proofs.Stages.{refuses, fails}
 use Rattle.session_answers.specs.declared.CallRefusal.{CallRefusal}
-use Rattle.session_answers.specs.Answers.{check_answer, call_answer, answer_bits}
+use Rattle.session_answers.specs.Answers.{check_answer, answer_bits}
+use Rattle.session_answers.specs.Replies.{call_answer}
 use Rattle.session_state.specs.declared.Told.{Told}
 use Rattle.session_state.specs.Header.{head_in, with_head}
 use Rattle.session_state.specs.Carried.{head_of}

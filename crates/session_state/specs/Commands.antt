@@ -9,7 +9,7 @@ use Rattle.buffers_tables.specs.Panel.{signals_in, kind_in, processor_in, slot_i
 use Rattle.buffers_tables.specs.Tables.{network_in, module_in}
 use Rattle.buffers_lengths.specs.Lengths.{fixed}
 use Rattle.machine_run.specs.Running.{watch_of}
-use Rattle.session_answers.specs.Answers.{call_answer}
+use Rattle.session_answers.specs.Replies.{call_answer}
 use Rattle.session_state.specs.declared.Told.{Told}
 use Rattle.buffers_tables.specs.Stores.{with_hands}
 

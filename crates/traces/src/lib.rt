@@ -6,7 +6,8 @@
 ghost use Rattle.std.specs.Prelude.{◌≡◌, ◌<◌, ◌≤◌, get_or, IfOk};
 ghost use Rattle.file_lines.specs.Answer.{Answers};
 ghost use Rattle.session_answers.specs.Answers.{check_bits};
-ghost use Rattle.session_answers.specs.Left.{left_after, Leaves};
+ghost use Rattle.session_answers.specs.Leaves.{Leaves};
+ghost use Rattle.session_answers.specs.Left.{left_after};
 ghost use Rattle.traces.specs.Bits.{bit, bits};
 ghost use Rattle.traces.specs.Turned.{most_cycles, values_length, turned, block_value, value_back, turned_back};
 ghost use Rattle.traces.specs.Checks.{count_check, unused_check, turn_check, turn_back_check};

@@ -100,6 +100,6 @@ returns c =
     leaves_done
     (first_both _ _ (lent_pass _ _ _ (sizes at))
     (first_both _ _ (counted at) (first_both _ _ (passes chosen c.in_ok-check_signals.was) (passes recorded c.in_ok-check_values.was))))
-    (c.write_page.ensures
+    (c.fill_page.ensures
     ∙ ap (λ (x : List ℕ). printed_on x (page_text c.in_ok-signals.signals.now c.in_ok-values.values.now c.args.count c.args.first c.args.cycles)) c.in-Some.ensures.cases.same
     ∙ ap₂ (λ (x y : List ℕ). printed_on c.args.page.now (page_text x y c.args.count c.args.first c.args.cycles)) s v)

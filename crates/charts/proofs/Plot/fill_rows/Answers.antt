@@ -1,6 +1,6 @@
 -- The invariant: the lines of the first k signals are stored.
 use Rattle.charts.proofs.Writing.{stored_starts, rows_more}
-use Rattle.charts.proofs.Plot.write_rows.Goals as goal
+use Rattle.charts.proofs.Plot.fill_rows.Goals as goal
 
 pub loop-k-init : goal.loop-k-init
 loop-k-init c = stored_starts _ _ _ _

@@ -2,7 +2,7 @@
 use Rattle.charts.specs.Page.{line_bytes}
 use Rattle.charts.specs.Text.{chart_row}
 use Rattle.charts.proofs.Writing.{StoredUpTo}
-use Rattle.charts.proofs.Plot.write_rows.Given as goal
+use Rattle.charts.proofs.Plot.fill_rows.Given as goal
 
 abbrev pub invariant-loop-k : goal.invariant-loop-k
 invariant-loop-k l = StoredUpTo l.initial.page line_bytes (chart_row l.signals l.self.values.now l.self.cycles) l.self.count l.k l.page
