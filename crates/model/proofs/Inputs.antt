@@ -16,7 +16,7 @@ copies_more row (suc k) rows = ap (λ (l : List (ℕ → ℕ)). row ∷ l) (copi
 
 -- the rows that a run makes of row
 module _ (row : ℕ → ℕ) (stops : List (ℕ → ℕ) → Bool) where
-  abbrev Copies : List (ℕ → ℕ) → Run (List (ℕ → ℕ)) → Type 0
+  abbrev pub Copies : List (ℕ → ℕ) → Run (List (ℕ → ℕ)) → Type 0
   Copies rows r = r.state ≡ replicate r.count row ++ rows
 
   stop_copies : (t : Bool) (rows : List (ℕ → ℕ)) (r : Run (List (ℕ → ℕ))) → Copies (row ∷ rows) r → Copies rows (unless_stopped t (row ∷ rows) r)
@@ -24,7 +24,7 @@ module _ (row : ℕ → ℕ) (stops : List (ℕ → ℕ) → Bool) where
   stop_copies true rows r h = refl
   stop_copies false rows r h = h ∙ copies_more row r.count rows
 
-  run_copies : (k : ℕ) (rows : List (ℕ → ℕ)) → Copies rows (runs (λ y. row ∷ y) stops k rows)
+  pub run_copies : (k : ℕ) (rows : List (ℕ → ℕ)) → Copies rows (runs (λ y. row ∷ y) stops k rows)
   unfolding runs
   run_copies zero rows = refl
   run_copies (suc k) rows = stop_copies (stops (row ∷ rows)) rows (runs (λ y. row ∷ y) stops k (row ∷ rows)) (run_copies k (row ∷ rows))

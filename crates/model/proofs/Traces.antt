@@ -1,31 +1,16 @@
 -- Demand 3 over any trace of calls: what the calls' contracts give of each call, on the buffers as the last one left them, gives the
 -- claim of the list. The idea: heads that are alike and a state that keeps step with the plain session's rows, call after call.
-use Prim.Native.Nat.{ℕ, zero, suc, ◌+◌}
+use Prim.Native.Nat.{ℕ, zero, suc}
 use mathlib.Core.Path.{◌≡◌, refl, sym, subst, ◌∙◌, ap, fun_ext}
-use mathlib.Core.Bool.{Bool, true, false}
 use mathlib.Core.List.{List, ◌∷◌, ◌++◌}
 use native.Mathlib.Omega.{arith}
-use lib.ListN.{length, replicate}
+use lib.ListN.{length, replicate, length-append, length-replicate}
 use Rattle.model.specs.Refusal.{Check, pass, fail}
 use Rattle.model.specs.Network.{Network, Signal}
-use Rattle.model.specs.Session.{Engine, plain, watched, Head, Call, set, watch, read, run, Lengths, Lent, Answer, Run, unless_stopped, runs, ticks, Outcome, lent_check, running, perform, meet, outcome, plain_after, last_set}
+use Rattle.model.specs.Session.{Engine, plain, watched, Head, Call, set, watch, read, run, Lengths, Lent, Answer, runs, ticks, Outcome, lent_check, running, perform, meet, outcome, plain_after, last_set}
 use Rattle.model.specs.Demands.{Working, Trace, end, next, Agrees, Inside, Demand3}
 use Rattle.model.proofs.Session.{Like, like_trans, KeepStep, outcome_alike, ticks_alike}
-use Rattle.model.proofs.Inputs.{copies_more, hand_last_set, rows_last_set}
-
--- a run adds a row for each of its cycles
-module _ (row : ℕ → ℕ) (stops : List (ℕ → ℕ) → Bool) where
-  stop_rows : (t : Bool) (x : List (ℕ → ℕ)) (r : Run (List (ℕ → ℕ))) → length r.state ≡ r.count + length x
-      → length (unless_stopped t x r).state + 1 ≡ (unless_stopped t x r).count + length x
-  unfolding unless_stopped
-  stop_rows true x r h = omega arith
-  stop_rows false x r h = omega arith
-
-  run_rows : (k : ℕ) (rows : List (ℕ → ℕ)) → length (runs (λ y. row ∷ y) stops k rows).state ≡ (runs (λ y. row ∷ y) stops k rows).count + length rows
-  unfolding runs
-  run_rows zero rows = omega arith
-  run_rows (suc k) rows =
-      omega (arith, stop_rows (stops (row ∷ rows)) (row ∷ rows) (runs (λ y. row ∷ y) stops k (row ∷ rows)) (run_rows k (row ∷ rows)))
+use Rattle.model.proofs.Inputs.{copies_more, run_copies, hand_last_set, rows_last_set}
 
 -- "a row of input values for each cycle from 1 to t"
 module _ (fixed : Lengths) (n : Network) (table : List (ℕ → ℕ) → ℕ → ℕ) where
@@ -36,7 +21,9 @@ module _ (fixed : Lengths) (n : Network) (table : List (ℕ → ℕ) → ℕ →
   perform_rows h rows (watch s mask) e = e
   perform_rows h rows (read s) e = e
   perform_rows h rows (run k) e =
-      omega (arith, run_rows h.hand (λ y. watched h.watch.mask (table y h.watch.signal)) k rows)
+      let r = runs (λ y. h.hand ∷ y) (λ y. watched h.watch.mask (table y h.watch.signal)) k rows in
+      let copies : r.state ≡ replicate r.count h.hand ++ rows = run_copies h.hand _ k rows in
+      omega (arith, ap length copies, length-append (replicate r.count h.hand) rows, length-replicate r.count h.hand)
 
   pub outcome_rows : (h : Head) (rows : List (ℕ → ℕ)) (c : Lent) → length rows ≡ h.finished
       → length (outcome fixed n (plain table) h rows c).state ≡ (outcome fixed n (plain table) h rows c).head.finished
