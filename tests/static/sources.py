@@ -131,7 +131,7 @@ def declarations(path):
 
 # `use A.B.{a, ◌b◌, c as d}` brings a, ◌b◌ and d; `use A.B as c` and Rattle's `use a::B` bring one name
 IMPORT = re.compile(r"^(ghost\s+)?use\s+([^{};]+?)(?:\{([^{}]*)\})?;?\s*$", re.M)
-CLAUSE = re.compile(r"\b(?:ghost|requires|ensures)\b[^{};]*(?=\{)")
+CLAUSE = re.compile(r"\b(?:ghost|requires|ensures|by)\b[^{};]*(?=\{)")
 METHODS = {"FileExt": {"read_at"}}  # a trait of std is used where one of its methods is called
 
 

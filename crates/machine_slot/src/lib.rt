@@ -9,6 +9,7 @@ ghost use Rattle.model.specs.Machine.{sent as sent_by, slot as slot_done};
 ghost use Rattle.buffers_memory.specs.Memory.{memory_of, place, with_memory, written, here, MemoryBytes};
 ghost use Rattle.buffers_tables.specs.Panel.{processors_in, slots_in, codes_in};
 ghost use Rattle.buffers_tables.specs.Decoded.{instruction_in};
+ghost use Rattle.machine_slot.specs.Single.{tables_single};
 ghost use Rattle.buffers_tables.specs.Tables.{Tables};
 ghost use Rattle.machine_slot.specs.Storing.{gate_on, evaluated_on, evaluated, FirstAre, storing, stored_if, received_stored, passed};
 
