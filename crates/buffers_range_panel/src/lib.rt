@@ -31,7 +31,8 @@ fn head_right(panel: &Panel) -> bool
         && buffers_tables::mask(panel) <= 15
 }
 
-// The codes of a signal: zeros of an input, codes that are supplied of a gate.
+// The codes of a signal: zeros of an input, codes that are supplied of a gate. The kind is compared as the byte that the panel has, which
+// nothing has judged yet.
 #[tactic(auto, using(logic::proofs::Judged::connected), unfolding(crate::specs::Ranges::codes_ranged))]
 fn codes_right(panel: &Panel, signal: usize) -> bool
     requires { signal ≤ 4096 }

@@ -15,7 +15,8 @@ use netlist::Netlist;
 use std::fs::File;
 use std::rt::Files;
 
-// How many bytes were read of each file.
+// How many bytes were read of each file. The buffers stand beside it in `main`, and are lent: a struct of them would be moved with
+// the two megabytes that they are.
 #[derive(Clone, Copy)]
 struct Read {
     net: usize,

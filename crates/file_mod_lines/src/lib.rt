@@ -163,7 +163,8 @@ impl<'a> Line<'a> {
     }
 }
 
-// Line 1: 20, then 21.
+// Line 1: 20, then 21. This, the lines and the surplus are judged in NET as here, but by other numbers of fields, other tests and other
+// refusals: one function of both would be lent all of these, and would have no statement of its own.
 fn check_header(modfile: &[u8]) -> Result<Shape, ModRefusal>
     ensures { ModAnswers modfile.now (mod_header modfile.now) result }
 {

@@ -67,8 +67,9 @@ impl<'a> Machine<'a> {
         )
     }
 
-    // "Its gate's result, or its input's value for cycle t", which is the value in hand. An empty slot is not evaluated. The line is
-    // decoded behind the tests: what is decoded before them has to be kept over them.
+    // "Its gate's result, or its input's value for cycle t", which is the value in hand. An empty slot is not evaluated. The kind is
+    // compared as the panel's byte, which 44 judged: a `Kind` would be made of it in every slot. The line is decoded behind the tests:
+    // what is decoded before them has to be kept over them.
     fn evaluate(&self, memory: &Memory, processor: usize, slot: Slot) -> u8
         requires placed { (processor < processors_in self.now.panel.now) × (slot.0 < slots_in self.now.panel.now) }
         requires memory_bytes { MemoryBytes memory.now }

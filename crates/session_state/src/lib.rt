@@ -55,7 +55,7 @@ fn is_signal(panel: &Panel, signal: u32) -> bool
     signal != 0 && signal <= u32::from(buffers_tables::signals(panel))
 }
 
-// An input of the network: "setting a gate" is refused.
+// An input of the network: "setting a gate" is refused. The kind is compared as the byte that the panel has for C and that 44 judged.
 #[tactic(auto, using(logic::proofs::Judged::connected), unfolding(crate::specs::Commands::input_in))]
 fn is_input(panel: &Panel, signal: u32) -> bool
     requires { signals_in panel.now ≤ 4096 }
