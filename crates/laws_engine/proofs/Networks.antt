@@ -10,7 +10,7 @@ use Rattle.model.specs.Network.{Network, Signal, input, is_signal}
 use Rattle.model.specs.Session.{Engine, Head, Call, set, watch, read, run, Lengths, Lent, same_lengths, refused, Outcome, call_check, lent_check, running, perform, meet, outcome}
 use Rattle.model.proofs.Chains.{signal_true}
 use Rattle.model.proofs.Lengths.{same_self}
-use Rattle.model.proofs.Session.{Like, KeepStep, SameOutcome, outcome_alike}
+use Rattle.model.proofs.Session.{like_refl, KeepStep, SameOutcome, outcome_alike}
 
 module _ (fixed : Lengths) where
   -- a call that is not refused does not ask for the network
@@ -66,9 +66,6 @@ module _ (fixed : Lengths) where
     command_same : (E : Engine) (h : Head) (x : E.State) (c : Call) → command n E h x c ≡ command f E h x c
     command_same E h x c = meet_same n f E h x c _ ∙ ap (meet fixed f E h x c) (check_same h.finished c)
 
-    like_self : (h : Head) → Like f h h
-    like_self h = record { finished = refl; hand = λ s a k. refl; watch = refl }
-
     -- so engines that keep step, one on each network, do the same with a call
     pub commands_alike : (E F : Engine) (K : KeepStep f E F) (h : Head) (x : E.State) (y : F.State) (c : Call) → K.R x y → Signal f h.watch.signal
         → SameOutcome fixed f E F K (command n E h x c) (command f F h y c)
@@ -78,4 +75,4 @@ module _ (fixed : Lengths) where
         subst (λ (o : Outcome E.State). SameOutcome fixed f E F K o (command f F h y c)) (sym (command_same E h x c))
         (subst (λ (o : Outcome E.State). SameOutcome fixed f E F K o (command f F h y c)) (outcome_right f E h x lent right)
         (subst (SameOutcome fixed f E F K (outcome fixed f E h x lent)) (outcome_right f F h y lent right)
-        (outcome_alike fixed f E F K h h x y lent (like_self h) r watching)))
+        (outcome_alike fixed f E F K h h x y lent (like_refl f h) r watching)))

@@ -8,7 +8,7 @@ use native.Mathlib.Omega.{arith}
 use Rattle.model.specs.Network.{Network}
 use Rattle.model.specs.Session.{Engine, plain, fresh, Call, Lengths, Lent, same_lengths, Answer, refused, Outcome, plain_after}
 use Rattle.model.specs.Demands.{Working, Trace, end, next, Demand3}
-use Rattle.model.proofs.Session.{Like, KeepStep}
+use Rattle.model.proofs.Session.{Like, like_refl, KeepStep}
 use Rattle.model.proofs.Traces.{Met, demand_3}
 use Rattle.session_answers.specs.Answers.{answer_bits}
 use Rattle.session_answers.specs.Apart.{apart}
@@ -92,7 +92,7 @@ module _ (I : Interface) (n : Network) (E : Engine) (decode : I.Buffers → Work
               let wrong = outcome_wrong I.fixed n E (decode b).head (decode b).state c l in
               record {
                 answer = sym (ap (λ (o : Outcome E.State). o.answer) wrong);
-                head = rw wrong (record { finished = refl; hand = λ s i k. refl; watch = refl });
+                head = rw wrong (like_refl n (decode b).head);
                 state = rw wrong (close-self (decode b).state);
               }
 

@@ -15,7 +15,7 @@ use Rattle.model.specs.Module.{Module, At}
 use Rattle.model.specs.Machine.{Memory, cycle, opening, after}
 use Rattle.model.specs.Stimulus.{held, end_time}
 use Rattle.model.specs.Acceptance.{network_of, module_of_files, given_of, Accepted}
-use Rattle.model.specs.Session.{lockstep, Head, fresh, Lengths, Lent, Answer, Outcome, outcome, plain_after}
+use Rattle.model.specs.Session.{lockstep, fresh, Lengths, Lent, Answer, Outcome, outcome, plain_after}
 use Rattle.model.specs.Listing.{value_at, joined, listed_first, listed_change, listed_cycle, listing_of, listing, printed_for, printed}
 use Rattle.model.specs.Demands.{Demand2, Places, Working, Trace, end, next, Demand3}
 use Rattle.model.proofs.Conditions.{Formed, Acyclic, Scheduled}
@@ -25,7 +25,7 @@ use Rattle.model.proofs.Procedures.{simulated_follows}
 use Rattle.model.proofs.Accepted.{net_accepted, mod_accepted, net_formed, net_size_lem, mod_scheduled}
 use Rattle.model.proofs.Machine.{Near, near_refl}
 use Rattle.model.proofs.Keeping.{kept_table, kept_near, kept_opening, machine_holds_VAL, keeps}
-use Rattle.model.proofs.Session.{Like}
+use Rattle.model.proofs.Session.{like_refl}
 use Rattle.model.proofs.Traces.{Met, demand_3}
 
 -- a listing depends on the values of the signals alone
@@ -122,9 +122,6 @@ module _ (fixed : Lengths) (n : Network) (m : Module) (processor slot : ℕ → 
   unfoldable pub folded : (b : Working Memory) (cs : List Lent) → Trace Performs b cs
   folded b [] = end
   folded b (c ∷ cs) = next (result b c).answer (leaves b c) (record { answer = refl; left = refl }) (folded (leaves b c) cs)
-
-like_refl : (n : Network) (h : Head) → Like n h h
-like_refl n h = record { finished = refl; hand = λ s g k. refl; watch = refl }
 
 -- Demand 3 without any premise on a trace: from the opening on accepted files, for every list of calls
 module _ (limit : ℕ) (files : Files) (accepted : Accepted limit files) (fixed : Lengths) (processor slot : ℕ → ℕ)

@@ -18,6 +18,9 @@ pub record Like (n : Network) (g h : Head) : Type 0 where
   pub hand : SameInputs n g.hand h.hand
   pub watch : g.watch ≡ h.watch
 
+pub like_refl : (n : Network) (h : Head) → Like n h h
+like_refl n h = record { finished = refl; hand = λ s g k. refl; watch = refl }
+
 pub like_trans : (n : Network) (f g h : Head) → Like n f g → Like n g h → Like n f h
 like_trans n f g h a b =
     record { finished = a.finished ∙ b.finished; hand = λ s q k. a.hand s q k ∙ b.hand s q k; watch = a.watch ∙ b.watch }
