@@ -12,6 +12,7 @@ use graph_ranks::{ENTRIES, Graph, PLACES};
 
 // The rank of each signal of a checked NET, at the place of its number. Linear in the signals: no chain is closed, so
 // that the descent of `rank_all` ranks every gate in three steps for each signal, and its first pass ranks none.
+#[tactic(auto, using(crate::proofs::Exact::ranks_exact))]
 pub fn rank_signals(net: &[u8], size: u16, ranks: &mut [u16; PLACES])
     requires checked { Checked net.now × (size ≡ net_size net.now) }
     ensures { ranks.new ≡ ranks_of (network net.now) }

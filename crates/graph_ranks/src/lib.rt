@@ -45,6 +45,7 @@ impl<'a> Graph<'a> {
     }
 
     // The rank above the feeders of the node, where each has one.
+    #[tactic(auto, using(crate::proofs::Ranking::ground, crate::proofs::Ranking::above_start, crate::proofs::Ranking::above_none, crate::proofs::Ranking::above_more))]
     fn rank_above(&self, ranks: &[u16; PLACES], node: usize) -> Option<u16>
         requires ranked_so_far { SomeRanked self.now ranks.now }
         requires node_le_size { node ≤ self.now.size }
@@ -128,6 +129,7 @@ impl<'a> Graph<'a> {
     }
 
     // The nodes 1 to size stand on the way.
+    #[tactic(auto, using(crate::proofs::Descending::length_lined_up))]
     fn line_up(&self, way: &mut Stack<WAY>)
         requires { way.old ≡ [] }
         ensures { way.new ≡ lined_up self.now.size }
@@ -140,6 +142,7 @@ impl<'a> Graph<'a> {
     // A descent from every node. Where there is no loop, it ranks all within three steps for each node: one from where
     // the node stands at first, one down to it and one back. Where there is a loop, the steps run out on it, and passes
     // rank what is left.
+    #[tactic(auto, using(crate::proofs::Descending::length_lined_up, crate::proofs::Descending::nodes_lined_up))]
     fn rank_deep(&self, ranks: &mut [u16; PLACES])
         requires ranked_so_far { SomeRanked self.now ranks.old }
         ensures { SomeRanked self.now ranks.new }
@@ -156,6 +159,7 @@ impl<'a> Graph<'a> {
 
     // The rank of every node that has one, and 0, in a fixed array, for the others: by a descent, which is quick, and then
     // by passes over the nodes until one ranks none, which is sure.
+    #[tactic(auto, using(crate::proofs::Passing::all_ranked))]
     pub fn rank_all(&self, ranks: &mut [u16; PLACES])
         ensures { Ranked self.now.follow.now self.now.edges.now self.now.size ranks.new }
     {
