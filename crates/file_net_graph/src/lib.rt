@@ -30,6 +30,7 @@ impl<'a> Network<'a> {
     }
 
     // The rank-order gates, marked with 1.
+    #[tactic(auto, using(crate::proofs::Loading::follow_more), unfolding(crate::specs::Graph::follow_to))]
     fn mark_followed(&self, follow: &mut [u8; PLACES])
         ensures { follow.new ≡ follow_to self.now.net.now follow.old self.now.size }
     {
@@ -39,6 +40,7 @@ impl<'a> Network<'a> {
     }
 
     // The feeder that entry i of the graph names, 0 for none: the number that the entry is to hold.
+    #[tactic(auto, using(logic::proofs::Tests::decided), unfolding(crate::specs::Graph::feeder_of))]
     fn feeder_of(&self, follow: &[u8; PLACES], i: usize) -> u16
         requires is_entry { (4 ≤ i) × (i < 4 * self.now.size + 4) }
         ensures { result ≡ feeder_of self.now.net.now follow.now i }
@@ -56,6 +58,7 @@ impl<'a> Network<'a> {
     }
 
     // The graph of the rank-order gates.
+    #[tactic(auto, using(crate::proofs::Loading::edges_more), unfolding(crate::specs::Graph::edges_to))]
     fn load_edges(&self, follow: &[u8; PLACES], edges: &mut [u16; ENTRIES])
         ensures { edges.new ≡ edges_to self.now.net.now follow.now edges.old (4 * self.now.size) }
     {
