@@ -12,6 +12,7 @@ use graph_chains::first_loop;
 use graph_ranks::{ENTRIES, Graph, PLACES};
 
 // The smallest signal on a closed chain of rank-order gates, if there is one.
+#[tactic(auto, using(crate::proofs::Found::chain_found))]
 pub fn first_chain(net: &[u8], size: u16) -> Option<u16>
     requires { Lines net.now size }
     ensures { chain_check result ≡ net_chains net.now }

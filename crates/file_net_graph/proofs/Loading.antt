@@ -1,11 +1,10 @@
 -- The stores by which the graph of the rank-order gates is loaded, and what stands in it.
-use Prim.Native.Nat.{ℕ, suc, ◌+◌, ◌-◌, ◌*◌, ◌/◌, ◌%◌, ◌≤◌}
+use Prim.Native.Nat.{ℕ, suc, ◌+◌, ◌-◌, ◌*◌, ◌≤◌}
 use mathlib.Core.Path.{◌≡◌, ◌∙◌, ap, ap₂}
 use mathlib.Core.List.{List}
 use native.Mathlib.Omega.{arith}
 use lib.Dec.{eqb}
-use lib.ListN.{get_or, set, replicate}
-use borrow.Author.Tests.{eq-eqb, ne_eqb}
+use lib.ListN.{set, replicate}
 use Rattle.logic.specs.Test.{one}
 use Rattle.model.specs.Netlist.{net_field}
 use Rattle.file_net_graph.specs.Graph.{follow_to, feeder_of, edges_to, follow_of, edges_of}
@@ -29,21 +28,6 @@ module _ (net follow l : List ℕ) where
       let k : i ≡ i - 4 + 4 = omega arith in
       let n : i + 1 - 4 ≡ suc (i - 4) = omega arith in
       rw (n, ← k, q, e)
-
--- the feeder of an entry
-module _ (net follow : List ℕ) (i : ℕ) where
-  pub feeder_other : (get_or follow (i / 4) 0 ≡ 1 → ⊥) → feeder_of net follow i ≡ 0
-  unfolding feeder_of
-  feeder_other d = rw (ne_eqb (get_or follow (i / 4) 0) 1 d)
-
-  module _ (source : ℕ) (is : source ≡ net_field net (i / 4) (8 + i % 4)) (gate : get_or follow (i / 4) 0 ≡ 1) where
-    pub feeder_some : get_or follow source 0 ≡ 1 → feeder_of net follow i ≡ source
-    unfolding feeder_of
-    feeder_some e = rw (gate, ← is, eq-eqb (get_or follow source 0) 1 e)
-
-    pub feeder_none : (get_or follow source 0 ≡ 1 → ⊥) → feeder_of net follow i ≡ 0
-    unfolding feeder_of
-    feeder_none d = rw (gate, ← is, ne_eqb (get_or follow source 0) 1 d)
 
 -- both arrays, from zeros
 pub loaded_graph : (net follow₀ edges₀ follow edges : List ℕ) (size : ℕ) → follow₀ ≡ replicate 4097 0 → edges₀ ≡ replicate 16388 0

@@ -2,7 +2,7 @@
 
 #![tactic(auto)]
 
-ghost use Rattle.std.specs.Prelude.{◌≡◌, ◌+◌, ◌*◌, ◌<◌, ◌≤◌, eqb, length, replicate};
+ghost use Rattle.std.specs.Prelude.{◌≡◌, ◌+◌, ◌*◌, ◌<◌, ◌≤◌, eqb, replicate};
 ghost use Rattle.graph_ranks.specs.Graph.{IsGraph};
 ghost use Rattle.model.specs.Network.{rank_order};
 ghost use Rattle.model.specs.Netlist.{net_field};
@@ -10,6 +10,7 @@ ghost use Rattle.file_net_graph.specs.Lines.{Lines};
 ghost use Rattle.file_net_graph.specs.Graph.{follow_to, feeder_of, edges_to, follow_of, edges_of};
 
 use file_net_line::{Kind, field};
+use graph_ranks::{ENTRIES, PLACES};
 
 // A network of which the lines were found right.
 #[derive(Clone, Copy)]
@@ -29,8 +30,8 @@ impl<'a> Network<'a> {
     }
 
     // The rank-order gates, marked with 1.
-    fn mark_followed(&self, follow: &mut [u8])
-        requires { length follow.old ≡ 4097 }
+    #[tactic(auto, using(crate::proofs::Loading::follow_more), unfolding(crate::specs::Graph::follow_to))]
+    fn mark_followed(&self, follow: &mut [u8; PLACES])
         ensures { follow.new ≡ follow_to self.now.net.now follow.old self.now.size }
     {
         for s in 1..usize::from(self.size) + 1 {
@@ -39,8 +40,8 @@ impl<'a> Network<'a> {
     }
 
     // The feeder that entry i of the graph names, 0 for none: the number that the entry is to hold.
-    fn feeder_of(&self, follow: &[u8], i: usize) -> u16
-        requires follow_len { length follow.now ≡ 4097 }
+    #[tactic(auto, using(logic::proofs::Tests::decided), unfolding(crate::specs::Graph::feeder_of))]
+    fn feeder_of(&self, follow: &[u8; PLACES], i: usize) -> u16
         requires is_entry { (4 ≤ i) × (i < 4 * self.now.size + 4) }
         ensures { result ≡ feeder_of self.now.net.now follow.now i }
     {
@@ -57,9 +58,8 @@ impl<'a> Network<'a> {
     }
 
     // The graph of the rank-order gates.
-    fn load_edges(&self, follow: &[u8], edges: &mut [u16])
-        requires follow_len { length follow.now ≡ 4097 }
-        requires edges_len { length edges.old ≡ 16388 }
+    #[tactic(auto, using(crate::proofs::Loading::edges_more), unfolding(crate::specs::Graph::edges_to))]
+    fn load_edges(&self, follow: &[u8; PLACES], edges: &mut [u16; ENTRIES])
         ensures { edges.new ≡ edges_to self.now.net.now follow.now edges.old (4 * self.now.size) }
     {
         for i in 4..4 * usize::from(self.size) + 4 {
@@ -69,7 +69,7 @@ impl<'a> Network<'a> {
 }
 
 // The rank-order gates of the network and the graph of them, into zeroed arrays.
-pub fn load_graph(net: &[u8], size: u16, follow: &mut [u8], edges: &mut [u16])
+pub fn load_graph(net: &[u8], size: u16, follow: &mut [u8; PLACES], edges: &mut [u16; ENTRIES])
     requires lines { Lines net.now size }
     requires zeroed { (follow.old ≡ replicate 4097 0) × (edges.old ≡ replicate 16388 0) }
     ensures follow_after { follow.new ≡ follow_of net.now size }

@@ -1,8 +1,8 @@
-// Graphs of numbered nodes, given as slices of numbers: the smallest node on a loop.
+// Graphs of numbered nodes, given as arrays of numbers: the smallest node on a loop.
 
 #![tactic(auto)]
 
-ghost use Rattle.std.specs.Prelude.{◌≡◌, ◌<◌, ◌≤◌, length};
+ghost use Rattle.std.specs.Prelude.{◌≡◌, ◌<◌, ◌≤◌};
 ghost use Rattle.graph_ranks.specs.Graph.{places, Loops, Decides, FirstLoop};
 ghost use Rattle.graph_ranks.specs.Ranks.{Ranked};
 ghost use Rattle.graph_chains.specs.Search.{Room, state, blank, pushed, pushed_all};
@@ -67,8 +67,7 @@ fn reaches_itself(graph: &Graph, s: usize) -> bool
 }
 
 // Is s on a loop? What is not followed, or has a rank, is not.
-fn on_loop(graph: &Graph, ranks: &[u16], s: usize) -> bool
-    requires ranks_len { length ranks.now ≡ places }
+fn on_loop(graph: &Graph, ranks: &[u16; PLACES], s: usize) -> bool
     requires ranked { Ranked graph.now.follow.now graph.now.edges.now graph.now.size ranks.now }
     requires s_le_size { s ≤ graph.now.size }
     ensures { Decides (Loops graph.now.edges.now s) result }

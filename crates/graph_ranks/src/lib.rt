@@ -1,9 +1,9 @@
-// Graphs of numbered nodes, given as slices of numbers: how far each node stands above its feeders.
+// Graphs of numbered nodes, given as arrays of numbers: how far each node stands above its feeders.
 
 #![tactic(auto)]
 
 ghost use Rattle.std.specs.Prelude.{◌≡◌, ◌+◌, ◌*◌, ◌<◌, ◌≤◌, [], length, get_or, MatchOption};
-ghost use Rattle.graph_ranks.specs.Graph.{places, IsGraph};
+ghost use Rattle.graph_ranks.specs.Graph.{IsGraph};
 ghost use Rattle.graph_ranks.specs.Ranks.{OpenFeeder, OpenAt, Ranked, RankAbove};
 ghost use Rattle.graph_ranks.specs.Descent.{Nodes, lined_up};
 
@@ -25,8 +25,8 @@ const WAY: usize = 16384;
 // A graph of the nodes 1 to `size`: those that are followed are marked with 1, and the edges are four entries a node.
 #[derive(Clone, Copy)]
 pub struct Graph<'a> {
-    pub follow: &'a [u8],
-    pub edges: &'a [u16],
+    pub follow: &'a [u8; PLACES],
+    pub edges: &'a [u16; ENTRIES],
     pub size: usize,
     pub ghost is_graph: { IsGraph follow.now edges.now size },
 }
@@ -45,7 +45,8 @@ impl<'a> Graph<'a> {
     }
 
     // The rank above the feeders of the node, where each has one.
-    fn rank_above(&self, ranks: &[u16], node: usize) -> Option<u16>
+    #[tactic(auto, using(crate::proofs::Ranking::ground, crate::proofs::Ranking::above_start, crate::proofs::Ranking::above_none, crate::proofs::Ranking::above_more))]
+    fn rank_above(&self, ranks: &[u16; PLACES], node: usize) -> Option<u16>
         requires ranked_so_far { SomeRanked self.now ranks.now }
         requires node_le_size { node ≤ self.now.size }
         ensures { MatchOption result (OpenFeeder self.now.edges.now ranks.now node) (RankAbove self.now.edges.now ranks.now node 4) }
@@ -66,7 +67,7 @@ impl<'a> Graph<'a> {
     }
 
     // The node is visited: it gets its rank, if it is followed, has none yet, and each of its feeders has one. Did it?
-    fn visit(&self, ranks: &mut [u16], node: usize) -> bool
+    fn visit(&self, ranks: &mut [u16; PLACES], node: usize) -> bool
         requires ranked_so_far { SomeRanked self.now ranks.old }
         requires is_node { (1 ≤ node) × (node ≤ self.now.size) }
         ensures { Visited self.now node ranks.old ranks.new result }
@@ -82,7 +83,7 @@ impl<'a> Graph<'a> {
     }
 
     // A pass: each node is visited in turn. Did some get a rank?
-    fn visit_all(&self, ranks: &mut [u16]) -> bool
+    fn visit_all(&self, ranks: &mut [u16; PLACES]) -> bool
         requires ranked_so_far { SomeRanked self.now ranks.old }
         ensures { Passed self.now (self.now.size + 1) ranks.old ranks.new result }
     {
@@ -96,8 +97,7 @@ impl<'a> Graph<'a> {
     }
 
     // A feeder of the node that has no rank.
-    fn open_feeder(&self, ranks: &[u16], node: usize) -> Option<u16>
-        requires ranks_len { length ranks.now ≡ places }
+    fn open_feeder(&self, ranks: &[u16; PLACES], node: usize) -> Option<u16>
         requires node_le_size { node ≤ self.now.size }
         ensures { MatchOption result (OpenFeeder self.now.edges.now ranks.now node → ⊥) (OpenAt self.now.edges.now ranks.now node) }
     {
@@ -112,7 +112,7 @@ impl<'a> Graph<'a> {
 
     // A step of the descent: from the node that stood on top of the way to a feeder that has no rank, or, where each has
     // one, the node is visited and left.
-    fn descend(&self, ranks: &mut [u16], way: &mut Stack<WAY>, node: u16)
+    fn descend(&self, ranks: &mut [u16; PLACES], way: &mut Stack<WAY>, node: u16)
         requires ranked_so_far { SomeRanked self.now ranks.old }
         requires is_node { (1 ≤ node) × (node ≤ self.now.size) }
         requires nodes_on_way { Nodes self.now.size way.old }
@@ -129,6 +129,7 @@ impl<'a> Graph<'a> {
     }
 
     // The nodes 1 to size stand on the way.
+    #[tactic(auto, using(crate::proofs::Descending::length_lined_up))]
     fn line_up(&self, way: &mut Stack<WAY>)
         requires { way.old ≡ [] }
         ensures { way.new ≡ lined_up self.now.size }
@@ -141,7 +142,8 @@ impl<'a> Graph<'a> {
     // A descent from every node. Where there is no loop, it ranks all within three steps for each node: one from where
     // the node stands at first, one down to it and one back. Where there is a loop, the steps run out on it, and passes
     // rank what is left.
-    fn rank_deep(&self, ranks: &mut [u16])
+    #[tactic(auto, using(crate::proofs::Descending::length_lined_up, crate::proofs::Descending::nodes_lined_up))]
+    fn rank_deep(&self, ranks: &mut [u16; PLACES])
         requires ranked_so_far { SomeRanked self.now ranks.old }
         ensures { SomeRanked self.now ranks.new }
     {
@@ -157,8 +159,8 @@ impl<'a> Graph<'a> {
 
     // The rank of every node that has one, and 0, in a fixed array, for the others: by a descent, which is quick, and then
     // by passes over the nodes until one ranks none, which is sure.
-    pub fn rank_all(&self, ranks: &mut [u16])
-        requires ranks_len { length ranks.old ≡ places }
+    #[tactic(auto, using(crate::proofs::Passing::all_ranked))]
+    pub fn rank_all(&self, ranks: &mut [u16; PLACES])
         ensures { Ranked self.now.follow.now self.now.edges.now self.now.size ranks.new }
     {
         ranks.fill(0);

@@ -31,6 +31,7 @@ impl<const N: usize> Stack<N> {
         }
     }
 
+    #[tactic(auto, using(crate::proofs::Held::length_held, crate::proofs::Held::held_pushed))]
     pub fn push(&mut self, x: u16)
         requires { length self.old < N }
         ensures { self.new ≡ x ∷ self.old }
