@@ -45,14 +45,6 @@ field_wrong l at e = go (is_field_at l at) e
     go true q = absurd (let z : ◌≡◌ {A = ℕ} 0 1 = cc in omega arith)
     go false q = refl
 
--- byte 10 stands before the file's end
-pub ended_within : (l : List ℕ) (place : ℕ) → eqb (get_or l place 0) newline ≡ true → place < length l
-ended_within l place e = go (ltb place (length l)) refl
-  where
-    go : (b : Bool) → ltb place (length l) ≡ b → place < length l
-    go true f = ltb-true place (length l) f
-    go false f = absurd (omega (arith, eqb-true (get_or l place 0) newline e, get_or-eq_default l 0 (ltb-false place (length l) f)))
-
 -- what the answer of a line tells
 module _ (l : List ℕ) (at n : ℕ) where
   pub line_right : (next : ℕ) → read_line l at n ≡ Some next → is_line_at l at n ≡ true

@@ -9,8 +9,9 @@ ghost use Rattle.model.specs.Netlist.{net_field};
 ghost use Rattle.file_net_graph.specs.Lines.{Lines};
 ghost use Rattle.file_net_graph.specs.Graph.{follow_to, feeder_of, edges_to, follow_of, edges_of};
 
-use file_net_line::{Kind, field};
+use file_net_line::field;
 use graph_ranks::{ENTRIES, PLACES};
+use netlist::Kind;
 
 // A network of which the lines were found right.
 #[derive(Clone, Copy)]

@@ -12,10 +12,10 @@ use Rattle.logic.proofs.Judged.{or_no}
 use Rattle.gates.specs.Translation.{is_translation}
 use Rattle.gates.specs.Function.{is_function}
 use Rattle.model.specs.Netlist.{net_field, ten_zeros, input_layout, gate_layout, source_right, sources_right}
-use Rattle.file_net_line.specs.declared.kind.Kind.{Kind}
-use Rattle.file_net_line.specs.declared.kind.Kind.TheVariants.{Input, UnitDelay, RankOrder}
-use Rattle.file_net_line.specs.declared.kind.UnknownKind.{UnknownKind}
-use Rattle.file_net_line.specs.Kind.{code_of, Decodes}
+use Rattle.netlist.specs.declared.kind.Kind.{Kind}
+use Rattle.netlist.specs.declared.kind.Kind.TheVariants.{Input, UnitDelay, RankOrder}
+use Rattle.netlist.specs.declared.kind.UnknownKind.{UnknownKind}
+use Rattle.netlist.specs.Kind.{code_of, Decodes}
 
 -- a number that is not read as an input's is another
 not_input : (number : ℕ) (r : Result Kind UnknownKind) → Decodes number r → (r ≡ Ok Input → ⊥) → number ≡ 1 → ⊥

@@ -1,2 +1,1 @@
-pub mod Kind
 pub mod Layout

@@ -13,10 +13,7 @@ ghost use Rattle.file_net_line.specs.Layout.{signal_layout};
 
 use fields::{number_at, zeros_at};
 use gates::{is_constant, is_function, is_translation};
-
-mod kind;
-
-pub use kind::{Kind, UnknownKind};
+use netlist::Kind;
 
 // A line of NET that was found right.
 #[derive(Clone, Copy)]

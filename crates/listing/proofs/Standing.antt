@@ -106,12 +106,6 @@ module _ {files : Files} {k : ℕ} {l : Lister} {stim panel program memory shown
   pub stands_few : l.cursor.line ≤ stim_count stim
   stands_few = rw s.stimulus stands_passed.few
 
-  pub stands_end : l.end.0 ≤ 65535
-  stands_end = omega (arith, s.end, end_small (network_of files) files.STIM (stim_accepted panel_limit files s.accepted))
-
-  pub stands_pieces : l.pieces ≤ l.end.0 + 1
-  stands_pieces = omega (arith, s.given, s.left, s.end)
-
   stands_holding : Holding (network_of files) (module_of_files files) panel program
   stands_holding =
       subst (λ (x : List ℕ). Holding (network_of files) (module_of_files files) x program) (sym s.panel_is)

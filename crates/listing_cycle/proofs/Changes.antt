@@ -82,9 +82,6 @@ module _ {n time : ℕ} {values old : ℕ → ℕ} {lent : List ℕ} {s at : ℕ
       now k lo hi (yes q) = rw q (get_or-set_same shown (s + 1) value 0 (omega (arith, w.size)) ∙ e)
       now k lo hi (no d) = get_or-set_other shown (s + 1) k value 0 d ∙ w.passed k lo (omega arith)
 
-  pub written_size : length out ≡ length lent
-  written_size = rw w.bytes (length-sets lent 0 (change_lines s time values old))
-
   written_shown : shown ≡ shown_with s values old
   unfolding shown_with ◌and◌
   written_shown = is_listed shown shown_length _ w.size (λ k l. byte k (dec_lt 0 k) (dec_lt s k))

@@ -128,8 +128,6 @@ starts {files} {l} {stim} {panel} {program} {memory} {shown} s e room none unfai
 
 module _ {files : Files} {count : ℕ} {l : Lister} {stim panel program memory shown piece : List ℕ} {parts : ℕ} {failed : Bool} {turns : ℕ}
     (so_far : Underway files count l stim panel program memory shown piece parts failed turns) where
-  pub all_handed : count ≤ turns → Handing files parts failed
-  all_handed over = handed_all (omega (arith, over, so_far.each, so_far.few, so_far.counted)) so_far.unfailed
 
   module _ (more : turns < count) where
     pub left : parts < part_count files
@@ -142,9 +140,6 @@ module _ {files : Files} {count : ℕ} {l : Lister} {stim panel program memory s
         (step : (f : Files) (k : ℕ) → Stands f k l stim panel program memory shown → Gives f k piece p piece' stim panel' program memory' shown') where
       gives : Gives files parts piece p piece' stim panel' program memory' shown'
       gives = step files parts (so_far.stands more)
-
-      pub gives_room : p.length ≤ length piece'
-      gives_room = rw gives.bytes (omega (arith, gives.short, length-sets piece 0 (piece_at files parts), so_far.room))
 
       pub gives_next : take p.length piece' ≡ part_at files parts
       gives_next =

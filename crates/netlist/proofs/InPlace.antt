@@ -1,20 +1,26 @@
--- The fields of an accepted NET that are read in place: N, and the kind of a signal. A NET that passes by a lower limit passes by the panel's.
-use Prim.Native.Nat.{ℕ, ◌+◌, ◌*◌}
+-- The fields of an accepted NET that are read in place: N, and those of a signal, whose kind is one of three. A NET that passes by a lower
+-- limit passes by the panel's.
+use Prim.Native.Nat.{ℕ, ◌+◌, ◌*◌, ◌<◌, ◌≤◌}
 use mathlib.Core.Path.{◌≡◌, refl}
 use mathlib.Core.Bool.{true}
 use mathlib.Core.List.{List}
-use native.Mathlib.Omega.{arith}
+use mathlib.Core.Logic.{⊎_elim}
 use borrow.Author.Tests.{leb-true, le-leb}
 use Rattle.logic.proofs.Tests.{and_left, and_right, and_true}
 use Rattle.logic.proofs.Judged.{connected}
-use Rattle.fields.specs.Field.{is_field_at, number_at}
+use Rattle.std.specs.Prelude.{Result, Ok, Err}
+use Rattle.std.specs.Result.{result_unwrap_or}
+use Rattle.fields.specs.Field.{is_field_at}
 use Rattle.model.specs.Refusal.{pass}
 use Rattle.model.specs.Network.{is_signal}
-use Rattle.model.specs.Netlist.{net_size, network, net_header, net_check}
+use Rattle.model.specs.Netlist.{net_field, net_size, network, net_header, net_check}
 use Rattle.model.specs.Acceptance.{panel_limit}
 use Rattle.model.specs.Checked.{Checked}
 use Rattle.model.proofs.Refusals.{first_left, first_right, first_both, unless_true, unless_pass}
-use Rattle.model.proofs.Checked.{panel_few, checked_accepted, checked_size, checked_field}
+use Rattle.model.proofs.Checked.{panel_few, checked_accepted, checked_size, checked_signal, checked_field}
+use Rattle.netlist.specs.declared.kind.Kind.{Kind}
+use Rattle.netlist.specs.declared.kind.UnknownKind.{UnknownKind}
+use Rattle.netlist.specs.Kind.{code_of, Decodes}
 
 module _ (net : List ℕ) (checked : Checked net) where
   header_passes : net_header checked.limit net ≡ pass → net_header panel_limit net ≡ pass
@@ -31,22 +37,37 @@ module _ (net : List ℕ) (checked : Checked net) where
   checked_passes = first_both _ _ (header_passes (first_left _ _ checked.passes)) (first_right _ _ checked.passes)
 
 module _ (net : List ℕ) (accepted : net_check panel_limit net ≡ pass) where
-  checked : Checked net
+  pub checked : Checked net
   checked = checked_accepted panel_limit panel_few net accepted
 
-  pub size_field : is_field_at net 6 ≡ true
-  size_field = checked_field net checked 0 1 6 (omega arith) (omega arith) refl
+  pub right_field : (line column : ℕ) → line ≤ net_size net → column < 12 → is_field_at net (73 * line + 6 * column) ≡ true
+  right_field line column high low = checked_field net checked line column _ high low refl
 
-  pub kind_field : (s : ℕ) → is_signal (network net) s ≡ true → is_field_at net (73 * s) ≡ true
-  unfolding is_signal network
-  kind_field s h = checked_field net checked s 0 (73 * s) (leb-true _ _ (and_right _ _ h)) (omega arith) (omega arith)
+  pub size_range : (1 ≤ net_size net) × (net_size net ≤ 4096)
+  size_range = checked_size net checked
+
+  module _ (s : ℕ) (signal : is_signal (network net) s ≡ true) where
+    pub low : 1 ≤ s
+    unfolding is_signal
+    low = leb-true _ _ (and_left _ _ signal)
+
+    pub high : s ≤ net_size net
+    unfolding is_signal network
+    high = leb-true _ _ (and_right _ _ signal)
+
+    -- the number of a signal's kind names one
+    pub kind_named : (r : Result Kind UnknownKind) → Decodes (net_field net s 0) r → (other : Kind) → code_of (result_unwrap_or r other) ≡ (network net).kind s
+    unfolding network
+    kind_named (Ok kind) decoded other = decoded
+    kind_named (Err unknown) decoded other =
+        absurd (⊎_elim decoded.1 (⊎_elim decoded.2 decoded.3) (checked_signal net checked s (record { low = low; high = high })).kind)
 
 pub size_is : (net : List ℕ) → (network net).size ≡ net_size net
 unfolding network
 size_is net = refl
 
-pub kind_is : (net : List ℕ) (s : ℕ) → (network net).kind s ≡ number_at net (73 * s)
+pub source_is : (net : List ℕ) (s j : ℕ) → net_field net s (8 + j) ≡ (network net).source s j
 unfolding network
-kind_is net s = let e : 73 * s + 6 * 0 ≡ 73 * s = omega arith in rw e
+source_is net s j = refl
 
 pub ruleset sized = (connected, size_is)

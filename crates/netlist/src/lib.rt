@@ -1,13 +1,18 @@
-// A NET that is checked: N and the kinds of its signals, read in place (01, Files).
+// A NET that is checked: N, and the kinds, sources and codes of its signals, read in place (01, Files).
 
 #![tactic(auto)]
 
-ghost use Rattle.std.specs.Prelude.{◌≡◌, true, eqb};
+ghost use Rattle.std.specs.Prelude.{◌≡◌, true, ◌+◌, ◌<◌, ◌≤◌, eqb};
 ghost use Rattle.model.specs.Refusal.{pass};
 ghost use Rattle.model.specs.Network.{is_signal, input};
-ghost use Rattle.model.specs.Netlist.{net_size, network, net_check};
+ghost use Rattle.model.specs.Netlist.{net_field, net_size, network, net_check};
 ghost use Rattle.model.specs.Acceptance.{panel_limit};
 ghost use Rattle.model.specs.Checked.{Checked};
+ghost use Rattle.netlist.specs.Kind.{code_of};
+
+mod kind;
+
+pub use kind::{Kind, UnknownKind};
 
 // The bytes of a NET that is accepted by the panel's limit, and so is by any limit that a check goes by.
 #[derive(Clone, Copy)]
@@ -25,11 +30,19 @@ impl<'a> Netlist<'a> {
         Netlist { net }
     }
 
+    // A field of the line of a signal, or of line 1, which is that of 0.
+    pub fn field(&self, line: u16, column: usize) -> u16
+        requires { (line ≤ net_size self.now.net.now) × (column < 12) }
+        ensures { result ≡ net_field self.now.net.now line column }
+    {
+        fields::number_at(self.net, 73 * usize::from(line) + 6 * column)
+    }
+
     // N.
     pub fn signals(&self) -> u16
-        ensures { result ≡ net_size self.now.net.now }
+        ensures { (result ≡ net_size self.now.net.now) × (1 ≤ result) × (result ≤ 4096) }
     {
-        fields::number_at(self.net, 6)
+        self.field(0, 1)
     }
 
     // "A signal is 1 to N".
@@ -40,18 +53,26 @@ impl<'a> Netlist<'a> {
         1 <= s && s <= self.signals()
     }
 
-    // The kind of a signal, the first field of its line.
-    pub fn kind(&self, s: u16) -> u16
+    // The kind of a signal, the first field of its line. No other number stands there in a NET that is checked.
+    pub fn kind(&self, s: u16) -> Kind
         requires { is_signal (network self.now.net.now) s ≡ true }
-        ensures { result ≡ (network self.now.net.now).kind s }
+        ensures { code_of result ≡ (network self.now.net.now).kind s }
     {
-        fields::number_at(self.net, 73 * usize::from(s))
+        Kind::try_from(self.field(s, 0)).unwrap_or(Kind::Input)
     }
 
     pub fn is_input(&self, s: u16) -> bool
         requires { is_signal (network self.now.net.now) s ≡ true }
         ensures { result ≡ eqb ((network self.now.net.now).kind s) input }
     {
-        self.kind(s) == 1
+        self.kind(s) == Kind::Input
+    }
+
+    // Source 1 to 4 of a signal, by 0 to 3.
+    pub fn source(&self, s: u16, j: usize) -> u16
+        requires { (is_signal (network self.now.net.now) s ≡ true) × (j < 4) }
+        ensures { result ≡ (network self.now.net.now).source s j }
+    {
+        self.field(s, 8 + j)
     }
 }

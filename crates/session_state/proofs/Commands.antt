@@ -41,13 +41,6 @@ module _ (panel : List ℕ) (s : ℕ) where
   input_kind e = eqb-true (kind_in panel s) input (and_right _ _ e)
 
 module _ (panel : List ℕ) (s : ℕ) (r : Bool) (e : r ≡ signal_in panel s) where
-  pub input_stops : not r ≡ true → false ≡ input_in panel s
-  unfolding input_in ◌and◌
-  input_stops h = rw (fails r (signal_in panel s) e h)
-
-  pub input_goes_on : not r ≡ false → eqb (kind_in panel s) 1 ≡ input_in panel s
-  unfolding input_in ◌and◌
-  input_goes_on h = rw (passes r (signal_in panel s) e h)
 
 -- if a command's outcome is known by an equation, what it tells is told by that
 pub tells : {State : Type 0} (o p : Outcome State) (told : Told) (before after : List ℕ) → o ≡ p → call_answer told.answer ≡ p.answer

@@ -11,11 +11,6 @@ use borrow.Author.Tests.{lt-leb}
 use Rattle.logic.specs.Test.{◌or◌}
 use Rattle.writing.specs.Text.{column_of, field_text, line_text}
 
--- the last column shows the digit 0 too
-pub column_last : (n w : ℕ) → n < w → w ≡ 1 → column_of n w ≡ 48
-unfolding column_of ◌or◌
-column_last n w h e = let z : n ≡ 0 = omega arith in rw (e, z)
-
 -- no number reaches the column of weight 100000
 pub column_first : (n : ℕ) → n ≤ 65535 → column_of n 100000 ≡ 32
 unfolding column_of ◌or◌

@@ -1,9 +1,10 @@
--- The kind of a signal is a right field.
-use Rattle.netlist.proofs.InPlace.{kind_field, kind_is}
+-- The number of a signal's kind names one.
+use native.Mathlib.Omega.{arith}
+use Rattle.netlist.proofs.InPlace.{high, kind_named}
 use Rattle.netlist.proofs.Netlist.kind.Goals as goal
 
-pub number_at-requires : goal.number_at-requires
-number_at-requires c = rw c.from.ensures (kind_field _ c.args.self.now.accepted _ c.requires)
+pub field-requires : goal.field-requires
+field-requires c = (high _ c.args.self.now.accepted _ c.requires, omega arith)
 
 pub returns : goal.returns
-returns c = rw (kind_is, ← c.from.ensures, ← c.number_at.ensures)
+returns c = rw c.unwrap_or.ensures (kind_named _ c.args.self.now.accepted _ c.requires _ (rw c.field.ensures at c.try_from.ensures) _)

@@ -1,4 +1,4 @@
-ghost use Rattle.file_net_line.specs.Kind.{Decodes};
+ghost use Rattle.netlist.specs.Kind.{Decodes};
 
 // What a signal is: an input, a unit-delay gate or a rank-order gate.
 #[derive(Clone, Copy, Debug, PartialEq, Eq)]

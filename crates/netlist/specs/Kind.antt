@@ -1,9 +1,9 @@
 -- "Kind 1 is an input .., 2 unit-delay, 3 rank-order" (01, Files).
 use Rattle.std.specs.Prelude.{ℕ, ◌≡◌, ◌≢◌, Result, MatchResult}
 use Rattle.model.specs.Network.{input, unit_delay, rank_order}
-use Rattle.file_net_line.specs.declared.kind.Kind.{Kind}
-use Rattle.file_net_line.specs.declared.kind.Kind.TheVariants.{Input, UnitDelay, RankOrder}
-use Rattle.file_net_line.specs.declared.kind.UnknownKind.{UnknownKind}
+use Rattle.netlist.specs.declared.kind.Kind.{Kind}
+use Rattle.netlist.specs.declared.kind.Kind.TheVariants.{Input, UnitDelay, RankOrder}
+use Rattle.netlist.specs.declared.kind.UnknownKind.{UnknownKind}
 
 -- the number by which NET writes a kind
 abbrev pub code_of : Kind → ℕ
