@@ -40,8 +40,6 @@ module _ (panel : List ℕ) (s : ℕ) where
   unfolding input_in
   input_kind e = eqb-true (kind_in panel s) input (and_right _ _ e)
 
-module _ (panel : List ℕ) (s : ℕ) (r : Bool) (e : r ≡ signal_in panel s) where
-
 -- if a command's outcome is known by an equation, what it tells is told by that
 pub tells : {State : Type 0} (o p : Outcome State) (told : Told) (before after : List ℕ) → o ≡ p → call_answer told.answer ≡ p.answer
     → told.session.finished.0 ≡ p.head.finished → watch_of told.session.watch ≡ p.head.watch → after ≡ with_hands p.head.hand before
