@@ -30,6 +30,7 @@ impl Search {
     }
 
     // The feeder x is marked and stacked, if it is a node and has no mark.
+    #[tactic(auto, using(crate::proofs::Pushing::push_none, crate::proofs::Pushing::push_old, graph_ranks::proofs::Zeros::zeros_at))]
     fn push(&mut self, x: u16)
         requires { x < places }
         ensures { state_of self.new ≡ pushed (state_of self.old) x }
@@ -43,6 +44,7 @@ impl Search {
     }
 
     // Each feeder of the node is marked and stacked.
+    #[tactic(auto, using(crate::proofs::Pushing::push_more), unfolding(crate::specs::Search::pushed_to))]
     fn push_feeders(&mut self, graph: &Graph, node: usize)
         requires { node ≤ graph.now.size }
         ensures { state_of self.new ≡ pushed_all graph.now.edges.now (state_of self.old) node }
