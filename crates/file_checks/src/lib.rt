@@ -83,7 +83,7 @@ pub fn check_net(net: &[u8]) -> Result<(), FileRefusal>
 pub fn check_mod(net: &Netlist, modfile: &[u8]) -> Result<(), FileRefusal>
     ensures { Answers file_refusal tt (mod_check (network net.now.net.now) modfile.now) result }
 {
-    file_mod::check_mod(net.net, modfile)?;
+    file_mod::check_mod(net, modfile)?;
     Ok(())
 }
 

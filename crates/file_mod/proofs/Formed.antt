@@ -3,7 +3,6 @@
 use Prim.Native.Nat.{ℕ, ◌≤◌}
 use mathlib.Core.Path.{◌≡◌, refl, sym, ap, ◌∙◌}
 use mathlib.Core.List.{List}
-use Rattle.fields.specs.Field.{number_at}
 use native.Mathlib.Omega.{arith}
 use Rattle.std.specs.Prelude.{Result}
 use Rattle.model.specs.Refusal.{pass, first}
@@ -12,8 +11,6 @@ use Rattle.model.specs.Network.{Network}
 use Rattle.model.specs.Netlist.{net_size, network}
 use Rattle.model.specs.ModuleFile.{module_of, mod_header, mod_slot, each_line, mod_surplus, mod_check}
 use Rattle.model.proofs.Refusals.{first_left, first_right, first_first}
-use Rattle.model.specs.Checked.{Checked}
-use Rattle.model.proofs.Checked.{checked_size}
 use Rattle.file_lines.proofs.Stages.{renamed}
 use Rattle.file_mod_lines.specs.declared.ModRefusal.{ModRefusal}
 use Rattle.file_mod_lines.specs.declared.Shape.{Shape}
@@ -23,36 +20,30 @@ use Rattle.file_mod_lines.proofs.Accepted.{header_sized}
 use Rattle.file_mod.specs.Testing.{module_check}
 use Rattle.file_mod_table.specs.Line.{LinesLaid}
 use Rattle.file_mod_table.proofs.Widest.{lines_widened}
-use Rattle.file_mod.specs.Formed.{Formed}
-
-pub signals_few : (net : List ℕ) (x : ℕ) → Checked net → x ≡ net_size net → x ≤ 4096
-signals_few net x net-checked e = rw e (checked_size net net-checked).1
+use Rattle.file_mod.specs.Known.{Known}
 
 -- the lines after the first, which the shape gives
-pub lines_formed : (net l : List ℕ) (shape : Shape) → Checked net → form_check (network net) l ≡ pass → shape ≡ shape_of l
+pub lines_formed : (net l : List ℕ) (shape : Shape) → net_size net ≤ 4096 → form_check (network net) l ≡ pass → shape ≡ shape_of l
     → LinesLaid l shape.processors shape.slots
 unfolding network
-lines_formed net l shape net-checked right is =
+lines_formed net l shape few right is =
     record {
       sized = header_sized l shape.processors shape.slots (first_left _ _ right) (ap (λ (s : Shape). s.processors) is) (ap (λ (s : Shape). s.slots) is);
-      lines = lines_widened (network net) (checked_size net net-checked).1 l (first_left _ _ (first_right _ _ right));
+      lines = lines_widened (network net) few l (first_left _ _ (first_right _ _ right));
     }
 
-pub formed : (net l : List ℕ) (shape : Shape) → Checked net → form_check (network net) l ≡ pass → shape ≡ shape_of l → Formed net l shape
+pub known : (net l : List ℕ) (shape : Shape) → form_check (network net) l ≡ pass → shape ≡ shape_of l → Known net l shape
 unfolding network module_of
-formed net l shape net-checked right is =
-    record {
-      checked = net-checked;
-      known = λ q i within.
-          (slot_right (network net) l q i
-          (at_pass l (mod_slot (network net) l) (first_left _ _ (first_right _ _ right)) q i
-          (record {
-            processor = omega (arith, within.processor, ap (λ (s : Shape). s.processors) is);
-            slot = omega (arith, within.slot, ap (λ (s : Shape). s.slots) is);
-          }))).signal;
-    }
+known net l shape right is =
+    λ p i within.
+    (slot_right (network net) l p i
+    (at_pass l (mod_slot (network net) l) (first_left _ _ (first_right _ _ right)) p i
+    (record {
+      processor = omega (arith, within.processor, ap (λ (s : Shape). s.processors) is);
+      slot = omega (arith, within.slot, ap (λ (s : Shape). s.slots) is);
+    }))).signal
 
-pub net_signals : (net : List ℕ) (x : ℕ) → x ≡ number_at net 6 → (network net).size ≡ x
+pub net_signals : (net : List ℕ) (x : ℕ) → x ≡ net_size net → (network net).size ≡ x
 unfolding network
 net_signals net x e = sym e
 

@@ -1,3 +1,3 @@
-pub mod Formed
+pub mod Known
 pub mod Counting
 pub mod Testing

@@ -4,21 +4,21 @@
 
 ghost use Rattle.std.specs.Prelude.{◌≡◌, ℕ, Bool, ◌≤◌, get_or};
 ghost use Rattle.model.specs.Network.{Network};
-ghost use Rattle.model.specs.Netlist.{net_size, network};
+ghost use Rattle.model.specs.Netlist.{network};
 ghost use Rattle.model.specs.Module.{placements};
 ghost use Rattle.model.specs.ModuleFile.{module_of, placed, mod_check};
 ghost use Rattle.model.specs.Refusal.{fail};
-ghost use Rattle.model.specs.Checked.{Checked};
 ghost use Rattle.file_lines.specs.Answer.{Answers};
 ghost use Rattle.file_mod_lines.specs.Answer.{mod_refusal, ModAnswers};
 ghost use Rattle.file_mod_table.specs.Line.{Within};
-ghost use Rattle.file_mod.specs.Formed.{Formed};
+ghost use Rattle.file_mod.specs.Known.{Known};
 ghost use Rattle.file_mod.specs.Counting.{counted_once};
 ghost use Rattle.file_mod.specs.Testing.{Computes, each_right, module_check};
 
 use file_mod_lines::{ModRefusal, Place, Shape};
 use file_mod_sources::{operands_right, reception_right, send_right};
 use file_mod_table::ModTable;
+use netlist::Netlist;
 
 // How often each signal is placed, counted line by line.
 fn count_signals(table: &ModTable, counts: &mut [u16; 4097])
@@ -68,25 +68,22 @@ fn check_each<F: Fn(Place) -> bool>(table: &ModTable, right: F) -> Result<(), u1
 }
 
 // The module that right lines give: 22, 24, 25 and 23, each over all lines.
-fn check_module(net: &[u8], table: &ModTable, signals: u16) -> Result<(), ModRefusal>
-    requires formed { Formed net.now table.now.modfile.now table.now.shape }
-    requires signals_value { signals ≡ net_size net.now }
-    ensures { Answers mod_refusal tt (module_check (network net.now) table.now.modfile.now) result }
+fn check_module(net: &Netlist, table: &ModTable) -> Result<(), ModRefusal>
+    requires { Known net.now.net.now table.now.modfile.now table.now.shape }
+    ensures { Answers mod_refusal tt (module_check (network net.now.net.now) table.now.modfile.now) result }
 {
-    check_placements(table, signals)?;
+    check_placements(table, net.signals())?;
     check_each(table, |place| send_right(table, place)).map_err(ModRefusal::Send)?;
     check_each(table, |place| reception_right(table, place)).map_err(ModRefusal::Reception)?;
     check_each(table, |place| operands_right(net, table, place)).map_err(ModRefusal::WrongOperand)
 }
 
 // MOD's check, NET being accepted: 20 and 21 by line, then 22, 24, 25 and 23.
-pub fn check_mod(net: &[u8], modfile: &[u8]) -> Result<Shape, ModRefusal>
-    requires { Checked net.now }
-    ensures { ModAnswers modfile.now (mod_check (network net.now) modfile.now) result }
+pub fn check_mod(net: &Netlist, modfile: &[u8]) -> Result<Shape, ModRefusal>
+    ensures { ModAnswers modfile.now (mod_check (network net.now.net.now) modfile.now) result }
 {
-    let signals = fields::number_at(net, 6);
-    let shape = file_mod_lines::check_form(modfile, signals)?;
+    let shape = file_mod_lines::check_form(modfile, net.signals())?;
     let table = ModTable::new(modfile, shape);
-    check_module(net, &table, signals)?;
+    check_module(net, &table)?;
     Ok(shape)
 }

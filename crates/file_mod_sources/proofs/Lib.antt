@@ -1,2 +1,3 @@
 pub mod Senders
 pub mod Operands
+pub mod Found

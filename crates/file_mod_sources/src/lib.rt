@@ -9,21 +9,17 @@ ghost use Rattle.model.specs.Module.{local_earlier, local_present, switch_earlie
 ghost use Rattle.model.specs.ModuleFile.{module_of};
 ghost use Rattle.instruction.specs.Operand.{part_of, location_of};
 ghost use Rattle.file_mod_table.specs.Line.{Within};
+ghost use Rattle.netlist.specs.Kind.{code_of};
 ghost use Rattle.file_mod_sources.specs.Asked.{Placed};
-ghost use Rattle.file_mod_sources.specs.Mirror.{sent_right, wanted_send, gate_reads};
+ghost use Rattle.file_mod_sources.specs.Mirror.{sent_right, wanted_send, gate_reads, FoundGate};
 
 use clock::Slot;
 use file_mod_lines::Place;
 use file_mod_table::ModTable;
 use instruction::Operand;
+use netlist::{Kind, Netlist};
 
-// The kinds of signals and the parts of sends, as NET and MOD write them: they are compared where they are read, so no enum is made of them.
-const INPUT: u16 = 1;
-
-const UNIT_DELAY: u16 = 2;
-
-const RANK_ORDER: u16 = 3;
-
+// The parts of sends, as MOD writes them: they are compared where they are read, so no enum is made of them.
 const LOCAL_EARLIER: u16 = 0;
 
 const LOCAL_PRESENT: u16 = 1;
@@ -74,10 +70,10 @@ fn sent_right(table: &ModTable, into: Place, part: u16, source: u16) -> bool
 }
 
 // The part of the send that part 3 wants.
-fn wanted_send(kind: u16) -> u16
-    ensures { result ≡ wanted_send kind }
+fn wanted_send(kind: Kind) -> u16
+    ensures { result ≡ wanted_send (code_of kind) }
 {
-    if kind == UNIT_DELAY {
+    if kind == Kind::UnitDelay {
         LOCAL_EARLIER
     } else {
         LOCAL_PRESENT
@@ -88,7 +84,7 @@ fn wanted_send(kind: u16) -> u16
 #[derive(Clone, Copy)]
 struct Gate {
     place: Place,
-    kind: u16,
+    kind: Kind,
     source: u16,
 }
 
@@ -109,7 +105,7 @@ impl Gate {
         requires { Within table.now.shape self.place.processor k }
         ensures { result ≡ gate_reads table.now.modfile.now self local_earlier k }
     {
-        self.kind == UNIT_DELAY && table.signal_at(self.named(k)) == self.source
+        self.kind == Kind::UnitDelay && table.signal_at(self.named(k)) == self.source
     }
 
     // "Local 1: k < i, the signal at k is the source, gate rank-order."
@@ -118,7 +114,7 @@ impl Gate {
         requires { Within table.now.shape self.place.processor k }
         ensures { result ≡ gate_reads table.now.modfile.now self local_present k }
     {
-        self.kind == RANK_ORDER
+        self.kind == Kind::RankOrder
             && k < self.place.slot.0
             && table.signal_at(self.named(k)) == self.source
     }
@@ -129,7 +125,7 @@ impl Gate {
         requires { Within table.now.shape self.place.processor k }
         ensures { result ≡ gate_reads table.now.modfile.now self switch_earlier k }
     {
-        self.kind == UNIT_DELAY && sent_right(table, self.named(k), LOCAL_PRESENT, self.source)
+        self.kind == Kind::UnitDelay && sent_right(table, self.named(k), LOCAL_PRESENT, self.source)
     }
 
     // "Part 3 wants k < i, and a send of part 0 for a unit-delay gate or part 1 for a rank-order gate."
@@ -158,32 +154,46 @@ impl Gate {
     }
 }
 
-// 23: operand j of the line at a place. "An operand whose source is 0, and all operands of inputs and empty slots, must be none."
-fn operand_right(net: &[u8], table: &ModTable, place: Place, j: usize) -> bool
-    requires placed { Placed net.now table.now.modfile.now table.now.shape place.processor place.slot.0 }
+// The gate at a place with the source of its operand j: none where the operand has nothing to read.
+#[tactic(auto, using(netlist::proofs::InPlace::sized), unfolding(model::specs::Module::must_be_none, model::specs::Network::is_signal))]
+fn gate_at(net: &Netlist, table: &ModTable, place: Place, j: usize) -> Option<Gate>
+    requires placed { Placed net.now.net.now table.now.modfile.now table.now.shape place.processor place.slot.0 }
     requires j_bound { j < 4 }
-    ensures { result ≡ operand_right (network net.now) (module_of table.now.modfile.now) place.processor place.slot.0 j }
+    ensures { FoundGate (network net.now.net.now) (module_of table.now.modfile.now) place j result }
 {
     let signal = table.signal_at(place);
-    let a = table.operand_at(place, j);
-    let line = 73 * usize::from(signal);
-    let kind = fields::number_at(net, line);
-    let source = fields::number_at(net, line + 6 * (8 + j));
-    if signal == 0 || kind == INPUT || source == 0 {
-        return matches!(a, Operand::None(_));
+    if signal == 0 {
+        return None;
     }
-    let gate = Gate {
+    let kind = net.kind(signal);
+    let source = net.source(signal, j);
+    if kind == Kind::Input || source == 0 {
+        return None;
+    }
+    Some(Gate {
         place,
         kind,
         source,
-    };
-    gate.reads(table, a)
+    })
+}
+
+// 23: operand j of the line at a place. "An operand whose source is 0, and all operands of inputs and empty slots, must be none."
+fn operand_right(net: &Netlist, table: &ModTable, place: Place, j: usize) -> bool
+    requires placed { Placed net.now.net.now table.now.modfile.now table.now.shape place.processor place.slot.0 }
+    requires j_bound { j < 4 }
+    ensures { result ≡ operand_right (network net.now.net.now) (module_of table.now.modfile.now) place.processor place.slot.0 j }
+{
+    let a = table.operand_at(place, j);
+    match gate_at(net, table, place, j) {
+        Some(gate) => gate.reads(table, a),
+        None => matches!(a, Operand::None(_)),
+    }
 }
 
 // 23: the four operands of the line at a place.
-pub fn operands_right(net: &[u8], table: &ModTable, place: Place) -> bool
-    requires { Placed net.now table.now.modfile.now table.now.shape place.processor place.slot.0 }
-    ensures { result ≡ all 4 (operand_right (network net.now) (module_of table.now.modfile.now) place.processor place.slot.0) }
+pub fn operands_right(net: &Netlist, table: &ModTable, place: Place) -> bool
+    requires { Placed net.now.net.now table.now.modfile.now table.now.shape place.processor place.slot.0 }
+    ensures { result ≡ all 4 (operand_right (network net.now.net.now) (module_of table.now.modfile.now) place.processor place.slot.0) }
 {
     (0..4).all(|j| operand_right(net, table, place, j))
 }

@@ -1,25 +1,20 @@
 -- Right lines leave what the conditions require; lines that are refused answer for all.
-use mathlib.Core.Path.{refl, ap}
-use native.Mathlib.Omega.{arith}
+use mathlib.Core.Path.{ap}
 use Rattle.std.specs.Prelude.{Ok}
 use Rattle.std.proofs.lemmas.Result.{err_from_is_err_and}
 use Rattle.model.specs.Netlist.{network}
-use Rattle.model.proofs.Checked.{checked_field}
 use Rattle.file_lines.proofs.Stages.{passes, same, accepted, after, stops}
 use Rattle.file_mod_lines.specs.Answer.{ModAnswers}
 use Rattle.file_mod_lines.specs.Form.{form_check}
 use Rattle.file_mod_lines.proofs.Accepted.{last_stops}
-use Rattle.file_mod.proofs.Formed.{lines_formed, formed, net_signals, checked}
+use Rattle.file_mod.proofs.Formed.{lines_formed, known, net_signals, checked}
 use Rattle.file_mod.proofs.check_mod.Goals as goal
 use Rattle.file_mod.proofs.check_mod.Goals.{After-check_form}
 
 -- the lines answer for the network of NET
-form_answers : (c : After-check_form) → ModAnswers c.args.modfile.now (form_check (network c.args.net.now) c.args.modfile.now) c.check_form.result
+form_answers : (c : After-check_form) → ModAnswers c.args.modfile.now (form_check (network c.args.net.now.net.now) c.args.modfile.now) c.check_form.result
 form_answers c =
-    c.check_form.ensures (network c.args.net.now) (net_signals c.args.net.now _ c.number_at-signals.ensures)
-
-pub number_at-signals-requires : goal.number_at-signals-requires
-number_at-signals-requires c = checked_field c.args.net.now c.requires 0 1 6 (omega arith) (omega arith) refl
+    c.check_form.ensures (network c.args.net.now.net.now) (net_signals c.args.net.now.net.now _ c.signals.ensures.0)
 
 pub returns-in_err-shape : goal.returns-in_err-shape
 returns-in_err-shape c =
@@ -29,12 +24,12 @@ returns-in_err-shape c =
 pub new-table-requires : goal.new-table-requires
 new-table-requires c =
     let answers = form_answers (goal.at.new-table-requires c).After-check_form in
-    lines_formed _ _ _ c.requires (passes answers c.in_ok-shape.was) (same answers c.in_ok-shape.was)
+    lines_formed _ _ _ (rw c.signals.ensures.0 at c.signals.ensures.2) (passes answers c.in_ok-shape.was) (same answers c.in_ok-shape.was)
 
-pub check_module-requires-clause-formed : goal.check_module-requires-clause-formed
-check_module-requires-clause-formed c =
-    let answers = form_answers (goal.at.check_module-requires-clause-formed c).After-check_form in
-    rw (c.new-table.ensures.0, c.new-table.ensures.1) (formed _ _ _ c.requires (passes answers c.in_ok-shape.was) (same answers c.in_ok-shape.was))
+pub check_module-requires : goal.check_module-requires
+check_module-requires c =
+    let answers = form_answers (goal.at.check_module-requires c).After-check_form in
+    rw (c.new-table.ensures.0, c.new-table.ensures.1) (known _ _ _ (passes answers c.in_ok-shape.was) (same answers c.in_ok-shape.was))
 
 pub returns-in_err-check_module : goal.returns-in_err-check_module
 returns-in_err-check_module c =

@@ -10,15 +10,15 @@ use Rattle.file_lines.specs.Answer.{Answers}
 use Rattle.file_lines.proofs.Stages.{renamed, passes, after, stops}
 use Rattle.file_mod_lines.specs.Answer.{mod_refusal}
 use Rattle.file_mod_lines.specs.declared.ModRefusal.TheVariants.{Send, Reception, WrongOperand}
-use Rattle.file_mod.proofs.Formed.{signals_few, net_signals}
+use Rattle.file_mod.proofs.Formed.{net_signals}
 use Rattle.file_mod.proofs.Mapped.{mapped}
 use Rattle.file_mod.proofs.Testing.{operands_each}
 use Rattle.file_mod.proofs.check_module.Goals as goal
 use Rattle.file_mod.proofs.check_module.Goals.{After-check_placements, After-map_err, After-map_err-2, After-map_err-3}
 
 -- 22, 24, 25 and 23 of the module
-placements : (c : After-check_placements) → Answers mod_refusal (tt {0}) (placed (network c.args.net.now) (module_of c.args.table.now.modfile.now)) c.check_placements.result
-placements c = c.check_placements.ensures (network c.args.net.now) (net_signals c.args.net.now _ c.requires.signals_value)
+placements : (c : After-check_placements) → Answers mod_refusal (tt {0}) (placed (network c.args.net.now.net.now) (module_of c.args.table.now.modfile.now)) c.check_placements.result
+placements c = c.check_placements.ensures (network c.args.net.now.net.now) (net_signals c.args.net.now.net.now _ c.signals.ensures.0)
 
 sends : (c : After-map_err) → Answers mod_refusal (tt {0}) (sending c.args.table.now.modfile.now) c.map_err.result
 unfolding sending
@@ -32,14 +32,11 @@ receptions c =
     mapped _ (λ line refusal p. let e : refusal ≡ Reception line = search rules in rw e refl)
     (c.check_each-2.ensures 25 (reception_right (module_of c.args.table.now.modfile.now)) (λ place b within q. search rules)) c.map_err-2.ensures.cases
 
-read : (c : After-map_err-3) → Answers mod_refusal (tt {0}) (operands (network c.args.net.now) c.args.table.now.modfile.now) c.map_err-3.result
+read : (c : After-map_err-3) → Answers mod_refusal (tt {0}) (operands (network c.args.net.now.net.now) c.args.table.now.modfile.now) c.map_err-3.result
 read c =
     mapped _ (λ line refusal p. let e : refusal ≡ WrongOperand line = search rules in rw e refl)
-    (renamed refl (operands_each (network c.args.net.now) c.args.table.now.modfile.now)
-    (c.check_each-3.ensures 23 (λ p i. all 4 (operand_right (network c.args.net.now) (module_of c.args.table.now.modfile.now) p i)) (λ place b within q. search rules))) c.map_err-3.ensures.cases
-
-pub check_placements-requires : goal.check_placements-requires
-check_placements-requires c = signals_few _ _ c.requires.formed.checked c.requires.signals_value
+    (renamed refl (operands_each (network c.args.net.now.net.now) c.args.table.now.modfile.now)
+    (c.check_each-3.ensures 23 (λ p i. all 4 (operand_right (network c.args.net.now.net.now) (module_of c.args.table.now.modfile.now) p i)) (λ place b within q. search rules))) c.map_err-3.ensures.cases
 
 pub returns-in_err-check_placements : goal.returns-in_err-check_placements
 returns-in_err-check_placements c =

@@ -8,4 +8,4 @@ use Rattle.file_mod_sources.proofs.operands_right.Goals as goal
 
 pub returns : goal.returns
 returns c =
-    all_in_range (operand_right (network c.args.net.now) (module_of c.args.table.now.modfile.now) c.args.place.processor c.args.place.slot.0) 4 c.all.ensures.ran (λ x b q k. search rules)
+    all_in_range (operand_right (network c.args.net.now.net.now) (module_of c.args.table.now.modfile.now) c.args.place.processor c.args.place.slot.0) 4 c.all.ensures.ran (λ x b q k. search rules)
