@@ -2,7 +2,7 @@
 
 #![tactic(auto)]
 
-ghost use Rattle.std.specs.Prelude.{◌≡◌, true, ◌+◌, ◌<◌, ◌≤◌, eqb};
+ghost use Rattle.std.specs.Prelude.{◌≡◌, true, ◌<◌, ◌≤◌, eqb};
 ghost use Rattle.model.specs.Refusal.{pass};
 ghost use Rattle.model.specs.Network.{is_signal, input};
 ghost use Rattle.model.specs.Netlist.{net_field, net_size, network, net_check};

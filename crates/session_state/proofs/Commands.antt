@@ -3,9 +3,8 @@ use Prim.Native.Nat.{ℕ, ◌≤◌, ◌<◌}
 use mathlib.Core.Path.{◌≡◌, refl, sym, subst, ◌∙◌, ap}
 use mathlib.Core.Bool.{Bool, true, false, not}
 use mathlib.Core.List.{List}
-use lib.Dec.{eqb, leb}
+use lib.Dec.{leb}
 use borrow.Author.Tests.{eqb-true, leb-true, le-leb, lt-leb}
-use Rattle.logic.specs.Test.{◌and◌}
 use Rattle.logic.proofs.Tests.{and_left, and_right}
 use Rattle.logic.proofs.Judged.{fails, passes}
 use Rattle.model.specs.Refusal.{Check, pass, fail, first, unless}
