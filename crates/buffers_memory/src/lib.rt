@@ -56,7 +56,8 @@ fn location_of(a: Operand) -> usize
     }
 }
 
-// The value at the location that an operand names.
+// The value at the location that an operand names. That every byte is a value is asked of the memory and not held by a type: the bytes
+// are lent by C, and written between two calls.
 #[tactic(auto, using(crate::proofs::Fetched::fetched_there))]
 pub fn fetch(memory: &Memory, processor: usize, a: Operand) -> u8
     requires memory_bytes { MemoryBytes memory.now }

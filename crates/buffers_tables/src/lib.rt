@@ -112,7 +112,8 @@ pub fn mask(panel: &Panel) -> u8
     panel[MASK]
 }
 
-// The kind of a signal.
+// A reader asks that its signal, its processor and its slot are in range, as an index is below a length: a type of each bound would be
+// made and taken apart at every call. The kind of a signal.
 pub fn kind(panel: &Panel, signal: usize) -> u8
     requires { signal ≤ 4096 }
     ensures { result ≡ kind_in panel.now signal }

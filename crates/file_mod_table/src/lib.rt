@@ -30,7 +30,7 @@ impl<'a> ModTable<'a> {
         ModTable { modfile, shape }
     }
 
-    // The number in a column of the line at a place.
+    // The number in a column of the line at a place. A place is asked to be in the module, as an index is in its slice.
     pub fn column_at(&self, place: Place, column: usize) -> u16
         requires within { Within self.now.shape place.processor place.slot.0 }
         requires column_bound { column < 14 }

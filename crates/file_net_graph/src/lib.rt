@@ -69,7 +69,8 @@ impl<'a> Network<'a> {
     }
 }
 
-// The rank-order gates of the network and the graph of them, into zeroed arrays.
+// The rank-order gates of the network and the graph of them, into zeroed arrays, which the caller has: it cannot be handed a `Graph` of
+// arrays made here.
 pub fn load_graph(net: &[u8], size: u16, follow: &mut [u8; PLACES], edges: &mut [u16; ENTRIES])
     requires lines { Lines net.now size }
     requires zeroed { (follow.old ≡ replicate 4097 0) × (edges.old ≡ replicate 16388 0) }

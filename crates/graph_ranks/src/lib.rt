@@ -44,7 +44,8 @@ impl<'a> Graph<'a> {
         self.edges[4 * node + j]
     }
 
-    // The rank above the feeders of the node, where each has one.
+    // The rank above the feeders of the node, where each has one. What holds of the ranks so far is asked of each caller: they are lent,
+    // and change from call to call.
     #[tactic(auto, using(crate::proofs::Ranking::ground, crate::proofs::Ranking::above_start, crate::proofs::Ranking::above_none, crate::proofs::Ranking::above_more))]
     fn rank_above(&self, ranks: &[u16; PLACES], node: usize) -> Option<u16>
         requires ranked_so_far { SomeRanked self.now ranks.now }

@@ -51,7 +51,7 @@ pub fn sender_numbered(number: u8) -> Option<u8>
     if number == 99 { None } else { Some(number) }
 }
 
-// "processors below P", or none.
+// "processors below P", or none. The number is judged here, and so is no `Option` yet.
 #[tactic(auto, using(crate::proofs::Senders::below, crate::proofs::Senders::other))]
 pub fn sender_right(sender: u16, processors: u16) -> bool
     ensures { result ≡ sender_laid processors sender }

@@ -89,7 +89,8 @@ fn bit_at(byte: u8, i: usize) -> u8
 }
 
 // One half of a block as a number: the low bits of the values within the count, or the high ones, the earliest cycle lowest. From the
-// last cycle to the first, what is there is doubled and the cycle's bit is added: shifted to its place, each bit takes longer.
+// last cycle to the first, what is there is doubled and the cycle's bit is added: shifted to its place, each bit takes longer. The count's
+// bound is asked, here and below, as that of an index is.
 fn turned_half(values: &[u8; VALUES_BYTES], count: usize, half: usize) -> u64
     requires { (count ≤ most_cycles) × (half < 2) }
     ensures { result ≡ bits (λ c. bit (get_or values.now c 0) half) count }
