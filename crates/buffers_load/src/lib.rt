@@ -13,6 +13,7 @@ ghost use Rattle.buffers_load_files.specs.Loaded.{panel_of, program_of, opening_
 
 use buffers_memory::Memory;
 use buffers_tables::{Panel, Program};
+use netlist::Netlist;
 
 // The three buffers of accepted files.
 pub fn load(
@@ -30,10 +31,11 @@ pub fn load(
     ensures program_after { program.new ≡ program_of (files_of net.now modfile.now stim.now) }
     ensures memory_after { memory.new ≡ opening_bytes (files_of net.now modfile.now stim.now) }
 {
+    let net = Netlist::new(net);
     let table = buffers_load_files::table_of(modfile);
     let mut values = [0; 4097];
-    buffers_load_values::load_values(net, stim, &mut values);
-    buffers_load_panel::load_panel(net, &table, &values, panel);
+    buffers_load_values::load_values(&net, stim, &mut values);
+    buffers_load_panel::load_panel(&net, &table, &values, panel);
     buffers_load_program::load_program(&table, program);
     buffers_load_memory::load_memory(&table, &values, memory);
 }

@@ -1,24 +1,14 @@
-// What loading reads of the first lines of the accepted files: N, P and C. Every byte that loading writes is defined here (specs/Loaded),
+// What loading reads of the first line of an accepted MOD: P and C. Every byte that loading writes is defined here (specs/Loaded),
 // for the crates that write them, and so is how a buffer is filled.
 
 #![tactic(auto)]
 
 ghost use Rattle.std.specs.Prelude.{◌≡◌, ℕ, ◌<◌, ◌≤◌, length};
 ghost use Rattle.logic.specs.Listed.{listed};
-ghost use Rattle.model.specs.Netlist.{net_size};
-ghost use Rattle.model.specs.Checked.{Checked};
 ghost use Rattle.buffers_load_files.specs.Checked.{ModuleChecked};
 
 use file_mod_lines::Shape;
 use file_mod_table::ModTable;
-
-// N, from line 1 of NET.
-pub fn signals_of(net: &[u8]) -> usize
-    requires { Checked net.now }
-    ensures { (result ≡ net_size net.now) × (1 ≤ result) × (result ≤ 4096) }
-{
-    usize::from(fields::number_at(net, 6))
-}
 
 // MOD with P and C, from its line 1. The lines after it may be read.
 pub fn table_of(modfile: &[u8]) -> ModTable

@@ -1,6 +1,6 @@
 -- The bytes of the panel: the session's, those of a signal, and which bytes they are; and panels by the same numbers are the same.
-use Prim.Native.Nat.{ℕ, zero, suc, ◌+◌, ◌*◌, ◌<◌, ◌≤◌}
-use mathlib.Core.Path.{◌≡◌, refl, sym, ◌∙◌, ap}
+use Prim.Native.Nat.{ℕ, zero, suc, ◌+◌, ◌<◌, ◌≤◌}
+use mathlib.Core.Path.{◌≡◌, refl, ◌∙◌, ap}
 use mathlib.Core.Bool.{Bool, true, false}
 use mathlib.Core.List.{List}
 use mathlib.Core.Logic.{⊎_elim}
@@ -12,7 +12,6 @@ use Rattle.std.specs.Prelude.{if◌then◌else◌}
 use Rattle.logic.specs.Listed.{listed}
 use Rattle.gates.specs.Function.{is_function}
 use Rattle.gates.specs.Translation.{is_translation}
-use Rattle.fields.specs.Field.{number_at}
 use Rattle.model.specs.Network.{input, unit_delay, rank_order}
 use Rattle.model.specs.Netlist.{net_field, net_size, codes, network}
 use Rattle.model.specs.ModuleFile.{mod_processors, mod_slots}
@@ -54,9 +53,6 @@ module _ (net : List ℕ) (checked : Checked net) {s : ℕ} (low : 1 ≤ s) (hig
   code_small (suc (suc (suc (suc (suc (suc (suc c))))))) l h = absurd (omega arith)
 
 -- the bytes of a signal
-pub kind_byte : (net : List ℕ) (s : ℕ) → number_at net (73 * s) ≡ net_field net s 0
-kind_byte net s = let e : 73 * s + 6 * 0 ≡ 73 * s = omega arith in ap (λ (x : ℕ). number_at net x) (sym e)
-
 module _ (net : List ℕ) (s v p i : ℕ) where
   pub code_byte : (c : ℕ) → codes_column ≤ c → c < hand_column → net_field net s (c + 1) ≡ get_or (signal_bytes (net_field net s 0) (codes net s) v p i) c 0
   code_byte zero l h = absurd (omega arith)

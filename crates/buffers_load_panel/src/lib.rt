@@ -5,7 +5,6 @@
 ghost use Rattle.std.specs.Prelude.{◌≡◌, ℕ, ◌<◌, ◌≤◌, get_or};
 ghost use Rattle.logic.specs.Listed.{listed};
 ghost use Rattle.model.specs.Netlist.{net_size, net_field, codes};
-ghost use Rattle.model.specs.Checked.{Checked};
 ghost use Rattle.buffers_tables.specs.Panel.{panel_length, panel_stride, head_bytes, signal_bytes, signal_of, column_of};
 ghost use Rattle.buffers_load_files.specs.Loaded.{place_of, panel_byte, panel_with};
 ghost use Rattle.buffers_load_files.specs.Checked.{value_in};
@@ -14,6 +13,7 @@ ghost use Rattle.buffers_load_panel.specs.Lines.{LineNumbers};
 use buffers_tables::{HAND, KIND, PANEL_STRIDE, PROCESSOR, Panel};
 use file_mod_lines::{Place, Shape};
 use file_mod_table::ModTable;
+use netlist::Netlist;
 
 // Which line of MOD has each signal, counted from 0 after line 1. Index 0 is for the empty slots.
 fn load_places(table: &ModTable, places: &mut [u16; 4097])
@@ -38,16 +38,17 @@ fn head_byte(signals: usize, shape: Shape, column: usize) -> u8
 }
 
 // One of the bytes of a signal: its codes as in NET, its value in hand, the processor and the slot of its line.
-fn signal_byte(net: &[u8], signal: usize, value: u8, place: Place, column: usize) -> u8
-    requires checked { Checked net.now }
-    requires le_signal { (1 ≤ signal) × (signal ≤ net_size net.now) × (place.processor < 16) × (place.slot.0 < 256) × (column < panel_stride) }
-    ensures { result ≡ get_or (signal_bytes (net_field net.now signal 0) (codes net.now signal) value place.processor place.slot.0) column 0 }
+fn signal_byte(net: &Netlist, signal: u16, value: u8, place: Place, column: usize) -> u8
+    requires is_signal { (1 ≤ signal) × (signal ≤ net_size net.now.net.now) }
+    requires place_bounds { (place.processor < 16) × (place.slot.0 < 256) }
+    requires column_bound { column < panel_stride }
+    ensures { result ≡ get_or (signal_bytes (net_field net.now.net.now signal 0) (codes net.now.net.now signal) value place.processor place.slot.0) column 0 }
 {
     if column == KIND {
-        return fields::number_at(net, 73 * signal) as u8;
+        return net.field(signal, 0) as u8;
     }
     if column < HAND {
-        return fields::number_at(net, 73 * signal + 6 * (column + 1)) as u8;
+        return net.field(signal, column + 1) as u8;
     }
     if column == HAND {
         return value;
@@ -60,18 +61,17 @@ fn signal_byte(net: &[u8], signal: usize, value: u8, place: Place, column: usize
 
 // Byte a of the panel. It holds 0 above signal N.
 fn panel_byte(
-    net: &[u8],
+    net: &Netlist,
     table: &ModTable,
     places: &[u16; 4097],
     values: &[u8; 4097],
     signals: usize,
     a: usize,
 ) -> u8
-    requires checked { Checked net.now }
-    requires signals_value { signals ≡ net_size net.now }
+    requires signals_value { signals ≡ net_size net.now.net.now }
     requires lines { LineNumbers table.now.shape.slots places.now }
     requires a_bound { a < panel_length }
-    ensures { result ≡ panel_byte net.now table.now.shape.processors table.now.shape.slots (value_in places.now) (value_in values.now) (signal_of a) (column_of a) }
+    ensures { result ≡ panel_byte net.now.net.now table.now.shape.processors table.now.shape.slots (value_in places.now) (value_in values.now) (signal_of a) (column_of a) }
 {
     let signal = a / PANEL_STRIDE;
     if signal == 0 {
@@ -81,17 +81,16 @@ fn panel_byte(
         return 0;
     }
     let place = table.shape.place_of(usize::from(places[signal]));
-    signal_byte(net, signal, values[signal], place, a % PANEL_STRIDE)
+    signal_byte(net, signal as u16, values[signal], place, a % PANEL_STRIDE)
 }
 
 // The panel as the session opens, with given values in hand.
-pub fn load_panel(net: &[u8], table: &ModTable, values: &[u8; 4097], panel: &mut Panel)
-    requires checked { Checked net.now }
-    ensures { panel.new ≡ panel_with net.now table.now.modfile.now (value_in values.now) }
+pub fn load_panel(net: &Netlist, table: &ModTable, values: &[u8; 4097], panel: &mut Panel)
+    ensures { panel.new ≡ panel_with net.now.net.now table.now.modfile.now (value_in values.now) }
 {
     let mut places = [0; 4097];
     load_places(table, &mut places);
-    let signals = buffers_load_files::signals_of(net);
+    let signals = usize::from(net.signals());
     buffers_load_files::fill_by(
         panel,
         |a| panel_byte(net, table, &places, values, signals, a),

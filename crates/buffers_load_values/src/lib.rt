@@ -2,17 +2,17 @@
 
 #![tactic(auto)]
 
-ghost use Rattle.std.specs.Prelude.{◌≡◌, length};
+ghost use Rattle.std.specs.Prelude.{◌≡◌};
 ghost use Rattle.logic.specs.Listed.{listed};
 ghost use Rattle.model.specs.Refusal.{pass};
 ghost use Rattle.model.specs.Netlist.{network};
 ghost use Rattle.model.specs.Stimulus.{stim_check};
 ghost use Rattle.buffers_load_files.specs.Loaded.{time_zero_from};
-ghost use Rattle.model.specs.Checked.{Checked};
 ghost use Rattle.buffers_load_values.specs.Values.{undefined_to};
 
 use clock::Cycle;
 use file_stim::Cursor;
+use netlist::Netlist;
 
 // "or U": what signal s has before STIM gives it a value, and 0 where there is no signal.
 #[tactic(auto, using(logic::proofs::Judged::connected), unfolding(crate::specs::Values::undefined_to))]
@@ -22,24 +22,13 @@ fn undefined_at(signals: usize, s: usize) -> u8
     if 1 <= s && s <= signals { 2 } else { 0 }
 }
 
-// U for every signal.
-#[tactic(auto, using(logic::proofs::Filling::fill_ends))]
-fn mark_undefined(signals: usize, values: &mut [u8])
-    ensures { values.new ≡ listed (length values.old) (undefined_to signals) }
-{
-    for s in 0..values.len() {
-        values[s] = undefined_at(signals, s);
-    }
-}
-
 // "At t = 0 every signal has its given value, or U". The lines of time 0 stand first, since times rise.
-pub fn load_values(net: &[u8], stim: &[u8], values: &mut [u8])
-    requires checked { Checked net.now }
-    requires stim_value { stim_check (network net.now) stim.now ≡ pass }
-    requires values_len { length values.old ≡ 4097 }
-    ensures { values.new ≡ listed 4097 (time_zero_from net.now stim.now) }
+pub fn load_values(net: &Netlist, stim: &[u8], values: &mut [u8; 4097])
+    requires { stim_check (network net.now.net.now) stim.now ≡ pass }
+    ensures { values.new ≡ listed 4097 (time_zero_from net.now.net.now stim.now) }
 {
-    mark_undefined(buffers_load_files::signals_of(net), values);
+    let signals = usize::from(net.signals());
+    buffers_load_files::fill_by(values, |s| undefined_at(signals, s));
     let mut cursor = Cursor { line: 0 };
     while let Some((line, next)) = cursor.next_of(stim, Cycle(0)) {
         values[usize::from(line.signal)] = line.value as u8;

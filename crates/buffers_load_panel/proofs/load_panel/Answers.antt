@@ -3,6 +3,7 @@ use Prim.Native.Nat.{◌<◌}
 use native.Mathlib.Omega.{arith}
 use lib.ListN.{get_or-replicate}
 use borrow.Author.Rules.{rules}
+use Rattle.netlist.proofs.InPlace.{checked}
 use Rattle.buffers_tables.specs.Panel.{panel_length, signal_of, column_of}
 use Rattle.buffers_load_files.specs.Loaded.{panel_byte}
 use Rattle.buffers_load_files.specs.Checked.{value_in}
@@ -22,5 +23,5 @@ fill_by-requires c =
 pub returns : goal.returns
 returns c =
     let sized = c.args.table.now.laid.sized in
-    panel_placed c.args.net.now c.args.table.now.modfile.now c.requires.checked _ _ _ _ sized.processors sized.slots c.load_places.ensures _
-    (rw c.told-panel at (c.fill_by.ensures (λ a. panel_byte c.args.net.now c.args.table.now.shape.processors c.args.table.now.shape.slots (value_in c.load_places.new.places) (value_in c.args.values.now) (signal_of a) (column_of a)) (λ a x low q. search rules)))
+    panel_placed c.args.net.now.net.now c.args.table.now.modfile.now (checked _ c.args.net.now.accepted) _ _ _ _ sized.processors sized.slots c.load_places.ensures _
+    (rw c.told-panel at (c.fill_by.ensures (λ a. panel_byte c.args.net.now.net.now c.args.table.now.shape.processors c.args.table.now.shape.slots (value_in c.load_places.new.places) (value_in c.args.values.now) (signal_of a) (column_of a)) (λ a x low q. search rules)))

@@ -5,7 +5,7 @@ use Rattle.buffers_load_values.proofs.Values.{GivenTo}
 use Rattle.buffers_load_values.proofs.load_values.Given as goal
 
 abbrev pub invariant-loop-line : goal.invariant-loop-line
-invariant-loop-line l = GivenTo l.net l.stim l.cursor.line l.values
+invariant-loop-line l = GivenTo l.net.net.now l.stim l.cursor.line l.values
 
 abbrev pub decreases-loop-line : goal.decreases-loop-line
 decreases-loop-line l = stim_count l.stim - l.cursor.line
