@@ -128,7 +128,6 @@ starts {files} {l} {stim} {panel} {program} {memory} {shown} s e room none unfai
 
 module _ {files : Files} {count : ℕ} {l : Lister} {stim panel program memory shown piece : List ℕ} {parts : ℕ} {failed : Bool} {turns : ℕ}
     (so_far : Underway files count l stim panel program memory shown piece parts failed turns) where
-
   module _ (more : turns < count) where
     pub left : parts < part_count files
     left = omega (arith, more, so_far.each, so_far.counted)
