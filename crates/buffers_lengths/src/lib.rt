@@ -18,7 +18,7 @@ pub fn lengths_right(panel: &[u8], program: &[u8], memory: &[u8]) -> bool
     panel.len() == PANEL_BYTES && program.len() == PROGRAM_BYTES && memory.len() == MEMORY_BYTES
 }
 
-// A buffer that holds one value throughout.
+// A buffer that holds one value throughout: the library's `fill`, stated as a list by its elements, as callers' definitions have it.
 pub fn fill(bytes: &mut [u8], value: u8)
     ensures { bytes.new ≡ listed (length bytes.old) (λ a. value) }
 {

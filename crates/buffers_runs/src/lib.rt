@@ -1,5 +1,5 @@
 // Runs of bytes judged by their largest byte, without a way out, so that the compiler takes many bytes at once.
-// A run is a place and a count, as in the definitions: by slices, each caller's proof would carry the slice's bytes back to the buffer.
+// A run is a place and a count, as in the definitions. By slices, the proofs of the panel's codes and signals did not close.
 
 #![tactic(auto)]
 

@@ -1,5 +1,5 @@
 // Every call of the panel (include/cavundir.h). Each hands its arguments to a library below, and its contract is that one's.
-// `cavundir_panel_c` exports them for C.
+// `cavundir_panel_c` exports them for C: an exported function stands in a library of its own, and theorems cite these.
 
 #![tactic(auto)]
 

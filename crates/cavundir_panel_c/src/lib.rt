@@ -1,5 +1,5 @@
 // Every function that C calls (include/cavundir.h). Each hands its arguments to the function of that name in `cavundir_panel`, and
-// its contract is that one's.
+// its contract is that one's: the interface to C needs each by its name.
 
 #![tactic(auto)]
 

@@ -95,7 +95,8 @@ pub fn check_stim(net: &Netlist, stim: &[u8]) -> Result<u16, FileRefusal>
     Ok(lines)
 }
 
-// "Order: NET, MOD, STIM." The first that breaks its conditions is refused, before the next is read.
+// "Order: NET, MOD, STIM." The first that breaks its conditions is refused, before the next is read: taken apart by let-else there, and not
+// by `?`, as document 01 names it.
 pub fn check_files(net: &[u8], modfile: &[u8], stim: &[u8]) -> Result<(), FileRefusal>
     ensures { answered file_refusal result ≡ file_check panel_limit (files_of net.now modfile.now stim.now) }
 {

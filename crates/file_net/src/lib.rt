@@ -60,7 +60,8 @@ fn check_header(net: &[u8], limit: u16) -> Result<u16, NetRefusal>
     Ok(header.field(1))
 }
 
-// The lines of the signals 1 to N, in order: 10 before 11 before 12 in each, and left at the first fault with its line.
+// The lines of the signals 1 to N, in order: 10 before 11 before 12 in each, and left at the first fault with its line. A labelled loop that
+// is left with its answer is the form that document 01 names, here and for MOD and STIM.
 fn check_lines(net: &[u8], size: u16) -> Result<u16, NetRefusal>
     requires { (size ≡ net_size net.now) × (size ≤ 4096) }
     ensures { NetAnswers net.now (net_lines net.now) result }

@@ -62,6 +62,7 @@ fn reaches_itself(graph: &Graph, s: usize) -> bool
 {
     let mut search = Search::new();
     search.push_feeders(graph, s);
+    // Until the stack is empty: nothing is counted.
     while let Some(node) = search.stack.pop() {
         search.push_feeders(graph, usize::from(node));
     }

@@ -25,7 +25,7 @@ pub struct Lister {
     pub pieces: u32,
 }
 
-// A piece, which stands in the first bytes of a buffer, and the listing after it.
+// A piece, which stands in the first bytes of a lent buffer and so is a length here, and the listing after it.
 #[derive(Clone, Copy)]
 pub struct Piece {
     pub lister: Lister,

@@ -32,7 +32,8 @@ pub struct Settled {
     pub cursor: Cursor,
 }
 
-// The line of a signal, where its value is not the one last shown; the place after it.
+// The line of a signal, where its value is not the one last shown; the place after it. Numbers are widened by `as`: by `From`, the proofs
+// of the answers did not close.
 fn write_change(
     time: Cycle,
     signal: u16,

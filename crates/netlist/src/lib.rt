@@ -14,7 +14,7 @@ mod kind;
 
 pub use kind::{Kind, UnknownKind};
 
-// The bytes of a NET that is accepted by the panel's limit, and so is by any limit that a check goes by.
+// The bytes of a NET that is checked. The limit is the panel's: what a lower one accepts, it accepts too.
 #[derive(Clone, Copy)]
 pub struct Netlist<'a> {
     pub net: &'a [u8],

@@ -47,7 +47,7 @@ pub fn decode(panel: &Panel) -> Session
     }
 }
 
-// A signal of the network: 1 to N. That N is at most 4096 is asked of the panel where a byte of a signal is read or written: its bytes are
+// A signal of the network: 1 to N. `Netlist` has the same test on NET's bytes, which are not there when a call is made. That N is at most 4096 is asked of the panel where a byte of a signal is read or written: its bytes are
 // lent by C, and 44 judged them.
 #[tactic(auto, using(logic::proofs::Judged::connected), unfolding(crate::specs::Commands::signal_in))]
 fn is_signal(panel: &Panel, signal: u32) -> bool

@@ -128,7 +128,8 @@ fn turn_checked(values: &[u8], block: &mut [u8], count: u32) -> Result<(), TurnR
     Ok(())
 }
 
-// Turns the values of one signal into a block. Refused by 40, 52, 42, and then no byte of the block changes.
+// Turns the values of one signal into a block. Refused by 40, 52, 42, and then no byte of the block changes. Turning and turning back
+// share the test of the count; what they judge after it, and what they fill, differs.
 pub fn turn(values: &[u8], block: &mut [u8], count: u32) -> u64
     ensures answer { result ≡ check_bits (turn_check values.now block.old count) }
     ensures block { block.new ≡ left_after (turn_check values.now block.old count) (turned values.now count) block.old }

@@ -20,7 +20,8 @@ fn column(n: u16, weight: u16) -> u8
     }
 }
 
-// n's field, written at a place. The column of weight 100000 is above every number.
+// n's field, written at a place. The column of weight 100000 is above every number. The bytes go into a lent buffer, and nothing
+// allocates: `Display` would need a formatter.
 pub fn write_field(out: &mut [u8], at: usize, n: u16)
     requires { at + 6 ≤ length out.old }
     ensures { out.new ≡ sets out.old at (field_text n) }
