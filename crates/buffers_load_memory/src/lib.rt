@@ -55,6 +55,7 @@ impl<'a> Opening<'a> {
     }
 
     // Byte a of the memory: "the earlier local half holds time 0", a switch location in both halves what is sent into it, all else is 0.
+    // By `as`, in this file, where the bound is proved: no `From` has this conversion, and `TryFrom` has an error that cannot happen.
     fn byte(&self, a: usize) -> u8
         requires { a < memory_length }
         ensures { result ≡ opening_byte self.now.table.now.modfile.now (value_in self.now.values.now) (byte_processor a) (byte_part a) (byte_location a) }

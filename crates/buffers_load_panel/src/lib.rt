@@ -16,6 +16,7 @@ use file_mod_table::ModTable;
 use netlist::Netlist;
 
 // Which line of MOD has each signal, counted from 0 after line 1. Index 0 is for the empty slots.
+// By `as`, in this file, where the bound is proved: no `From` has this conversion, and `TryFrom` has an error that cannot happen.
 fn load_places(table: &ModTable, places: &mut [u16; 4097])
     requires { (s : ℕ) → s ≤ 4096 → get_or places.old s 0 ≡ 0 }
     ensures { places.new ≡ listed 4097 (place_of table.now.modfile.now) }

@@ -14,6 +14,7 @@ use file_mod_lines::Place;
 use file_mod_table::ModTable;
 
 // One of the bytes of the line at a place: the signal takes two, and every other number is below 256.
+// By `as`, in this file, where the bound is proved: no `From` has this conversion, and `TryFrom` has an error that cannot happen.
 fn line_byte(table: &ModTable, place: Place, column: usize) -> u8
     requires within { Within table.now.shape place.processor place.slot.0 }
     requires column_bound { column < line_stride }

@@ -23,6 +23,7 @@ fn undefined_at(signals: usize, s: usize) -> u8
 }
 
 // "At t = 0 every signal has its given value, or U". The lines of time 0 stand first, since times rise.
+// By `as`, in this file, where the bound is proved: no `From` has this conversion, and `TryFrom` has an error that cannot happen.
 pub fn load_values(net: &Netlist, stim: &[u8], values: &mut [u8; 4097])
     requires { stim_check (network net.now.net.now) stim.now ≡ pass }
     ensures { values.new ≡ listed 4097 (time_zero_from net.now.net.now stim.now) }

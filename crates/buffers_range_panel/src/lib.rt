@@ -19,6 +19,7 @@ fn counted(x: u16, most: u16) -> bool
 }
 
 // The session's numbers: "N (1 to 4096)", "P (1 to 16), C (1 to 256)", and the watch.
+// By `as`, in this file, where the bound is proved: no `From` has this conversion, and `TryFrom` has an error that cannot happen.
 #[tactic(auto, using(logic::proofs::Judged::connected), unfolding(crate::specs::Ranges::head_ranged))]
 fn head_right(panel: &Panel) -> bool
     ensures { result ≡ head_ranged panel.now }

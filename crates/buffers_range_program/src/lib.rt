@@ -109,6 +109,7 @@ impl<'a> Judged<'a> {
 }
 
 // The program, N, P and C being the panel's.
+// By `as`, in this file, where the bound is proved: no `From` has this conversion, and `TryFrom` has an error that cannot happen.
 #[tactic(auto, using(crate::proofs::Slots::program_order))]
 pub fn program_right(panel: &Panel, program: &Program) -> bool
     requires sizes_high { (processors_in panel.now ≤ 16) × (slots_in panel.now ≤ 256) }

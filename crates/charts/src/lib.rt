@@ -229,6 +229,7 @@ impl<'a> Plot<'a> {
     }
 
     // The whole text of a page.
+    // By `as`, in this file, where the bound is proved: no `From` has this conversion, and `TryFrom` has an error that cannot happen.
     fn fill_page(&self, page: &mut [u8; PAGE_BYTES])
         ensures { page.new ≡ printed_on page.old (page_text self.now.signals.now self.now.values.now self.now.count self.now.first.0 self.now.cycles) }
     {

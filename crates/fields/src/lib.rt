@@ -136,6 +136,7 @@ fn low_number(s: &[u8], at: usize) -> u32
 }
 
 // The number of a field that was read before and is right, so that nothing is judged again.
+// By `as`, in this file, where the bound is proved: no `From` has this conversion, and `TryFrom` has an error that cannot happen.
 pub fn number_at(s: &[u8], at: usize) -> u16
     requires { is_field_at s.now at ≡ true }
     ensures { result ≡ number_at s.now at }

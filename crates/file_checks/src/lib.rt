@@ -114,6 +114,7 @@ pub fn check_files(net: &[u8], modfile: &[u8], stim: &[u8]) -> Result<(), FileRe
 }
 
 // "prints one line of two fields, number and returned value": nothing where the files are accepted.
+// By `as`, in this file, where the bound is proved: no `From` has this conversion, and `TryFrom` has an error that cannot happen.
 pub fn write_refusal(answer: Result<(), FileRefusal>, out: &mut [u8]) -> usize
     requires { 13 ≤ length out.old }
     ensures value { result ≡ length (refused_text (answered file_refusal answer)) }

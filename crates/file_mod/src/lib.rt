@@ -55,6 +55,7 @@ fn check_placements(table: &ModTable, signals: u16) -> Result<(), ModRefusal>
 }
 
 // A test over all lines: the first that is not right is refused, with its number.
+// By `as`, in this file, where the bound is proved: no `From` has this conversion, and `TryFrom` has an error that cannot happen.
 fn check_each<F: Fn(Place) -> bool>(table: &ModTable, right: F) -> Result<(), u16>
     requires { (place : Place) → Within table.now.shape place.processor place.slot.0 → F.pre right place }
     ensures { (number : ℕ) (test : ℕ → ℕ → Bool) → Computes (F.post right) table.now.shape test → Answers (fail number) tt (each_right number test table.now.modfile.now) result }

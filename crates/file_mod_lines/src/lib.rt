@@ -78,6 +78,7 @@ impl Shape {
     }
 
     // "by processor (0 to P-1), within it by slot (0 to C-1)": the place of the line k after the first.
+    // By `as`, in this file, where the bound is proved: no `From` has this conversion, and `TryFrom` has an error that cannot happen.
     pub fn place_of(self, k: usize) -> Place
         requires { (k < 4096) × (1 ≤ self.slots) }
         ensures { (result.processor ≡ k / self.slots) × (result.slot.0 ≡ k % self.slots) }

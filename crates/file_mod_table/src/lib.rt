@@ -96,6 +96,7 @@ impl<'a> ModTable<'a> {
     }
 
     // What operand j of the line names.
+    // By `as`, in this file, where the bound is proved: no `From` has this conversion, and `TryFrom` has an error that cannot happen.
     #[tactic(auto, unfolding(model::specs::ModuleFile::module_of))]
     pub fn operand_at(&self, place: Place, j: usize) -> Operand
         requires within { Within self.now.shape place.processor place.slot.0 }

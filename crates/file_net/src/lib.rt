@@ -62,6 +62,7 @@ fn check_header(net: &[u8], limit: u16) -> Result<u16, NetRefusal>
 
 // The lines of the signals 1 to N, in order: 10 before 11 before 12 in each, and left at the first fault with its line. A labelled loop that
 // is left with its answer is the form that document 01 names, here and for MOD and STIM.
+// By `as`, in this file, where the bound is proved: no `From` has this conversion, and `TryFrom` has an error that cannot happen.
 fn check_lines(net: &[u8], size: u16) -> Result<u16, NetRefusal>
     requires { (size ≡ net_size net.now) × (size ≤ 4096) }
     ensures { NetAnswers net.now (net_lines net.now) result }

@@ -12,6 +12,7 @@ use std::{io, str};
 
 // Reads an open file into the buffer; answers the number of bytes read. Each read is at a place of the file, which a pipe or a terminal
 // does not have: it fails there, and does not wait. The loop is over reads, each of as many bytes as came, and so counts no index.
+// By `as`, in this file, where the bound is proved: no `From` has this conversion, and `TryFrom` has an error that cannot happen.
 fn read_whole(file: &File, bytes: &mut [u8]) -> io::Result<usize>
     ensures { ReadsAtMost result bytes.new }
 {

@@ -80,6 +80,7 @@ fn on_loop(graph: &Graph, ranks: &[u16; PLACES], s: usize) -> bool
 
 // The smallest node that is on a loop, if one is. Ranks decide most graphs at once; only what has none is searched
 // from.
+// By `as`, in this file, where the bound is proved: no `From` has this conversion, and `TryFrom` has an error that cannot happen.
 pub fn first_loop(graph: &Graph) -> Option<u16>
     ensures { FirstLoop graph.now.edges.now graph.now.size result }
 {

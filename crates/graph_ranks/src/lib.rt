@@ -130,6 +130,7 @@ impl<'a> Graph<'a> {
     }
 
     // The nodes 1 to size stand on the way.
+    // By `as`, in this file, where the bound is proved: no `From` has this conversion, and `TryFrom` has an error that cannot happen.
     #[tactic(auto, using(crate::proofs::Descending::length_lined_up))]
     fn line_up(&self, way: &mut Stack<WAY>)
         requires { way.old ≡ [] }

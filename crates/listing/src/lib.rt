@@ -69,6 +69,7 @@ pub fn piece_count(end: Cycle) -> u32
 
 impl Lister {
     // The next piece: time 0; or the settings of the next time, one cycle and its changes; or the last line.
+    // By `as`, in this file, where the bound is proved: no `From` has this conversion, and `TryFrom` has an error that cannot happen.
     pub fn step(
         self,
         tables: &TruthTables,

@@ -56,7 +56,7 @@ impl Printed {
     }
 }
 
-// A buffer of a length.
+// A buffer of a length. A function, so that proofs over it see this clause alone, and not as many zeros as the files need.
 pub fn zeroed<const N: usize>() -> [u8; N]
     ensures { result ≡ replicate N 0 }
 {

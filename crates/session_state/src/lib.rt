@@ -57,6 +57,7 @@ fn is_signal(panel: &Panel, signal: u32) -> bool
 }
 
 // An input of the network: "setting a gate" is refused. The kind is compared as the byte that the panel has for C and that 44 judged.
+// By `as`, in this file, where the bound is proved: no `From` has this conversion, and `TryFrom` has an error that cannot happen.
 #[tactic(auto, using(logic::proofs::Judged::connected), unfolding(crate::specs::Commands::input_in))]
 fn is_input(panel: &Panel, signal: u32) -> bool
     requires { signals_in panel.now ≤ 4096 }

@@ -69,6 +69,7 @@ impl From<NoSuchValue> for TurnRefusal {
 }
 
 // The cycles that a block is to have: 1 to 64.
+// By `as`, in this file, where the bound is proved: no `From` has this conversion, and `TryFrom` has an error that cannot happen.
 fn cycles_of(count: u32) -> Result<usize, TurnRefusal>
     ensures answers { Answers turn_refusal count (count_check count) result }
     ensures at_most { IfOk result (λ cycles. cycles ≤ most_cycles) }

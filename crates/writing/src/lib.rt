@@ -8,6 +8,7 @@ ghost use Rattle.fields.specs.Line.{line_length};
 ghost use Rattle.writing.specs.Text.{column_of, field_text, line_text};
 
 // The byte of n's column of the given weight.
+// By `as`, in this file, where the bound is proved: no `From` has this conversion, and `TryFrom` has an error that cannot happen.
 #[tactic(auto, using(logic::proofs::Judged::connected), unfolding(crate::specs::Text::column_of))]
 fn column(n: u16, weight: u16) -> u8
     requires { 0 < weight }
