@@ -7,7 +7,7 @@ use lib.Dec.{eqb}
 use Rattle.std.specs.Prelude.{Option, Some, None}
 use Rattle.std.specs.Prelude.{if◌then◌else◌}
 use Rattle.model.specs.Module.{no_sender}
-use Rattle.file_mod_table.specs.Sender.{sender_numbered}
+use Rattle.instruction.specs.Sender.{sender_numbered}
 
 pub record From (sender processor : ℕ) : Type 0 where
   pub same : sender ≡ processor

@@ -16,7 +16,7 @@ use Rattle.model.specs.Module.{no_sender}
 use Rattle.model.specs.ModuleFile.{mod_line, mod_field, mod_processors, mod_index, module_of, mod_slot}
 use Rattle.model.proofs.Accepted.{SlotRight, slot_right, at_pass}
 use Rattle.std.specs.Prelude.{Some, None}
-use Rattle.file_mod_table.specs.Sender.{sender_numbered}
+use Rattle.instruction.specs.Sender.{sender_numbered}
 use Rattle.file_mod_lines.specs.declared.Shape.{Shape}
 use Rattle.file_mod_table.specs.Line.{widest, LinesLaid, Within, LineOf}
 
