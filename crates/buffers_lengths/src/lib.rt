@@ -1,9 +1,8 @@
-// The working buffers as such: their lengths (01, Refusals, 40), and one value throughout.
+// The lengths of the working buffers (01, Refusals, 40).
 
 #![tactic(auto)]
 
-ghost use Rattle.std.specs.Prelude.{◌≡◌, length};
-ghost use Rattle.logic.specs.Listed.{listed};
+ghost use Rattle.std.specs.Prelude.{◌≡◌};
 ghost use Rattle.model.specs.Session.{same_lengths};
 ghost use Rattle.buffers_lengths.specs.Lengths.{fixed, lengths_lent};
 
@@ -16,11 +15,4 @@ pub fn lengths_right(panel: &[u8], program: &[u8], memory: &[u8]) -> bool
     ensures { result ≡ same_lengths (lengths_lent panel.now program.now memory.now) fixed }
 {
     panel.len() == PANEL_BYTES && program.len() == PROGRAM_BYTES && memory.len() == MEMORY_BYTES
-}
-
-// A buffer that holds one value throughout: the library's `fill`, stated as a list by its elements, as callers' definitions have it.
-pub fn fill(bytes: &mut [u8], value: u8)
-    ensures { bytes.new ≡ listed (length bytes.old) (λ a. value) }
-{
-    bytes.fill(value);
 }

@@ -5,10 +5,10 @@ use mathlib.Core.Bool.{Bool, true, false}
 use mathlib.Core.List.{List}
 use native.Mathlib.Omega.{arith}
 use native.Mathlib.Decide.{ℕ_discrete}
-use lib.ListN.{get_or}
 use borrow.Author.Tests.{le-leb}
 use Rattle.logic.specs.Test.{◌and◌}
 use Rattle.logic.specs.Listed.{listed}
+use Rattle.logic.proofs.Listed.{listed_same}
 use Rattle.model.specs.Refusal.{pass}
 use Rattle.model.specs.Files.{Files}
 use Rattle.model.specs.Network.{is_signal}
@@ -29,16 +29,12 @@ use Rattle.buffers_load_files.specs.Loaded.{time_zero_from, time_zero, place_of,
 use Rattle.buffers_load_files.specs.Checked.{ModuleChecked, value_in}
 use Rattle.buffers_load_memory.specs.Bytes.{sent_value, opening_byte}
 use Rattle.buffers_load_files.proofs.Fields.{schedules, is_at, lines_laid}
-use Rattle.buffers_load_files.proofs.Arrays.{listed_same, array_at, in_array}
+use Rattle.buffers_load_files.proofs.Arrays.{array_at, in_array}
 use Rattle.buffers_load_panel.proofs.Panel.{panel_same}
 use Rattle.buffers_load_memory.proofs.Memory.{byte_outside, byte_local, byte_sent_earlier, byte_sent_present, byte_other, nothing_sent, something_sent}
 
--- the time 0 value of a signal, and of none
+-- the time 0 value of a signal
 module _ (files : Files) where
-  zero_is : time_zero files 0 ≡ 0
-  unfolding time_zero_from is_signal ◌and◌
-  zero_is = refl
-
   pub zeroth_is : (s : ℕ) → 1 ≤ s → s ≤ net_size files.NET → time_zero files s ≡ start (network_of files) (given_of files) s
   unfolding time_zero_from is_signal ◌and◌ network
   zeroth_is s l h = rw (le-leb 1 s l, le-leb s (net_size files.NET) h)
@@ -50,9 +46,6 @@ module _ (files : Files) (values : List ℕ) (e : values ≡ listed 4097 (time_z
 
   abbrev modfile : List ℕ
   modfile = files.MOD
-
-  pub values_none : get_or values 0 0 ≡ 0
-  values_none = array_at (time_zero files) values e 0 (omega arith) ∙ zero_is files
 
   module _ (checked : Checked net) where
     pub panel_zeroth : panel_with net modfile (value_in values) ≡ panel_of files

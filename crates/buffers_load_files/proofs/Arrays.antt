@@ -1,17 +1,14 @@
--- Arrays of a number for each signal: what one holds, and that lists by the same numbers are the same.
+-- Arrays of a number for each signal: what one holds.
 use Prim.Native.Nat.{ℕ, ◌<◌, ◌≤◌}
 use mathlib.Core.Path.{◌≡◌, ◌∙◌, ap}
 use mathlib.Core.List.{List}
 use native.Mathlib.Omega.{arith}
 use lib.ListN.{get_or}
 use Rattle.logic.specs.Listed.{listed}
-use Rattle.logic.proofs.Listed.{listed_length, listed_at, is_listed}
+use Rattle.logic.proofs.Listed.{listed_at}
 use Rattle.model.specs.Netlist.{net_size}
 use Rattle.model.specs.Checked.{Checked}
 use Rattle.model.proofs.Checked.{checked_size}
-
-pub listed_same : (n : ℕ) (f g : ℕ → ℕ) → ((i : ℕ) → i < n → f i ≡ g i) → listed n f ≡ listed n g
-listed_same n f g h = is_listed (listed n f) n g (listed_length n f) (λ i b. listed_at n f i b ∙ h i b)
 
 -- an array of a given length
 pub array_at : (f : ℕ → ℕ) (l : List ℕ) → l ≡ listed 4097 f → (s : ℕ) → s < 4097 → get_or l s 0 ≡ f s

@@ -1,10 +1,10 @@
 -- What an accepted MOD gives: line 1 is right where it is read, P and C are in range, and the lines after it may be read.
-use Prim.Native.Nat.{ℕ, ◌+◌, ◌*◌, ◌<◌, ◌≤◌}
+use Prim.Native.Nat.{ℕ, ◌<◌, ◌≤◌}
 use mathlib.Core.Path.{◌≡◌}
 use mathlib.Core.Bool.{true}
 use mathlib.Core.List.{List}
 use native.Mathlib.Omega.{arith}
-use Rattle.fields.specs.Field.{is_field_at}
+use Rattle.fields.specs.Line.{is_line_at}
 use Rattle.model.specs.Refusal.{pass}
 use Rattle.model.specs.Netlist.{network}
 use Rattle.model.specs.Module.{At}
@@ -13,7 +13,6 @@ use Rattle.model.specs.Checked.{Checked}
 use Rattle.model.proofs.Checked.{checked_size}
 use Rattle.model.proofs.Accepted.{mod_processors_lem, mod_slots_lem, mod_lines}
 use Rattle.model.proofs.Refusals.{first_left, first_right}
-use Rattle.model.proofs.RightLine.{line_field}
 use Rattle.file_mod_lines.proofs.Accepted.{header_sized}
 use Rattle.file_mod_table.specs.Line.{LinesLaid}
 use Rattle.file_mod_table.proofs.Widest.{lines_widened}
@@ -31,14 +30,8 @@ module _ {modfile : List ℕ} (s : ModuleChecked modfile) where
   pub slots_range : (1 ≤ mod_slots modfile) × (mod_slots modfile ≤ 256)
   slots_range = mod_slots_lem s.network modfile s.passes
 
-  header_field : (k : ℕ) → k < 14 → is_field_at modfile (0 + 6 * k) ≡ true
-  header_field = line_field modfile 0 14 (mod_lines s.network modfile s.passes 0 (omega arith))
-
-  pub processors_field : is_field_at modfile 0 ≡ true
-  processors_field = header_field 0 (omega arith)
-
-  pub slots_field : is_field_at modfile 6 ≡ true
-  slots_field = header_field 1 (omega arith)
+  pub header_line : is_line_at modfile 0 14 ≡ true
+  header_line = mod_lines s.network modfile s.passes 0 (omega arith)
 
   pub is_at : {p i : ℕ} → p < mod_processors modfile → i < mod_slots modfile → At (module_of modfile) p i
   unfolding module_of

@@ -3,7 +3,6 @@ use Prim.Native.Nat.{ℕ, zero, suc, ◌<◌, ◌≤◌}
 use mathlib.Core.Path.{◌≡◌, refl, sym, ap, ◌∙◌}
 use mathlib.Core.Bool.{Bool, true, false, not}
 use mathlib.Core.List.{List}
-use mathlib.Core.Logic.{◌⊎◌, ⊎_elim}
 use native.Mathlib.Omega.{arith}
 use native.Mathlib.Decide.{ℕ_discrete}
 use lib.Dec.{eqb}
@@ -12,6 +11,7 @@ use borrow.Author.Tests.{eq-eqb, ne_eqb}
 use Rattle.std.specs.Prelude.{if◌then◌else◌}
 use Rattle.logic.specs.Listed.{listed}
 use Rattle.logic.proofs.Listed.{listed_at}
+use Rattle.logic.proofs.Numbered.{Is}
 use Rattle.model.specs.Value.{value_of}
 use Rattle.model.specs.Module.{Module, no_sender}
 use Rattle.model.specs.Machine.{opening, fetch}
@@ -21,10 +21,16 @@ use Rattle.buffers_memory.proofs.Written.{Place, place_low, byte_place, written_
 use Rattle.buffers_load_files.specs.Checked.{value_in}
 use Rattle.buffers_load_memory.specs.Bytes.{sent_value, opening_byte}
 
--- an empty slot's value is that of index 0
-pub value_in_lem : (values : List ℕ) (s : ℕ) → get_or values 0 0 ≡ 0 → get_or values s 0 ≡ value_of (value_in values) s
-value_in_lem values zero e = e
-value_in_lem values (suc s) e = refl
+-- the value of a signal that is read as an Option
+pub value_some : (values : List ℕ) {s x : ℕ} → Is s x → get_or values x 0 ≡ value_of (value_in values) s
+value_some values is = rw is.same (go _ is.some)
+  where
+    go : (x : ℕ) → 1 ≤ x → get_or values x 0 ≡ value_of (value_in values) x
+    go zero low = absurd (omega arith)
+    go (suc x) low = refl
+
+pub value_none : (values : List ℕ) {s : ℕ} → s ≡ 0 → 0 ≡ value_of (value_in values) s
+value_none values e = rw e refl
 
 -- what is sent, from the sender's field
 module _ (m : Module) (zeroth : ℕ → ℕ) (p k sender : ℕ) (is : sender ≡ m.sender p k) where
@@ -97,10 +103,14 @@ module _ (modfile : List ℕ) (zeroth : ℕ → ℕ) {a : ℕ} (low : a < memory
     pub told_local : byte_part a ≡ 0 → (byte : ℕ) → byte ≡ value_of zeroth ((module_of modfile).signal (byte_processor a) (byte_location a)) → Told byte
     told_local e byte is = is ∙ sym (byte_local modfile zeroth there inside e)
 
-    pub told_sent : (byte_part a ≡ 2) ⊎ ((byte_part a ≡ 2 → ⊥) × (byte_part a ≡ 3)) → (byte : ℕ) → byte ≡ sent_value (module_of modfile) zeroth (byte_processor a) (byte_location a)
+    pub told_sent : 2 ≤ byte_part a → byte_part a < 4 → (byte : ℕ) → byte ≡ sent_value (module_of modfile) zeroth (byte_processor a) (byte_location a)
         → Told byte
-    told_sent e byte is =
-        is ∙ sym (⊎_elim (byte_sent_earlier modfile zeroth there inside) (λ e. byte_sent_present modfile zeroth there inside e.1) e)
+    told_sent least most byte is = is ∙ sym (go (ℕ_discrete (byte_part a) 2))
+      where
+        go : Dec (byte_part a ≡ 2)
+            → opening_byte modfile zeroth (byte_processor a) (byte_part a) (byte_location a) ≡ sent_value (module_of modfile) zeroth (byte_processor a) (byte_location a)
+        go (yes e) = byte_sent_earlier modfile zeroth there inside e
+        go (no d) = byte_sent_present modfile zeroth there inside (omega arith)
 
     pub told_other : (byte_part a ≡ 0 → ⊥) → (byte_part a ≡ 2 → ⊥) → (byte_part a ≡ 3 → ⊥) → Told 0
     told_other x y z = sym (byte_other modfile zeroth there inside x y z)

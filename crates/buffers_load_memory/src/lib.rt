@@ -2,7 +2,7 @@
 
 #![tactic(auto)]
 
-ghost use Rattle.std.specs.Prelude.{◌≡◌, ◌<◌, get_or};
+ghost use Rattle.std.specs.Prelude.{◌≡◌, ◌<◌};
 ghost use Rattle.model.specs.ModuleFile.{module_of};
 ghost use Rattle.model.specs.Value.{value_of};
 ghost use Rattle.file_mod_table.specs.Line.{Within};
@@ -21,12 +21,11 @@ const LOCAL_EARLIER: usize = 0;
 
 const SWITCH_EARLIER: usize = 2;
 
-// What the opening memory is made of: MOD, and the signals' time 0 values, with 0 for an empty slot.
+// What the opening memory is made of: MOD, and the signals' time 0 values.
 #[derive(Clone, Copy)]
 struct Opening<'a> {
     table: &'a ModTable<'a>,
     values: &'a [u8; 4097],
-    ghost empty: { get_or values.now 0 0 ≡ 0 },
 }
 
 impl<'a> Opening<'a> {
@@ -35,7 +34,10 @@ impl<'a> Opening<'a> {
         requires { Within self.now.table.now.shape place.processor place.slot.0 }
         ensures { result ≡ value_of (value_in self.now.values.now) ((module_of self.now.table.now.modfile.now).signal place.processor place.slot.0) }
     {
-        self.values[usize::from(self.table.signal_at(place))]
+        match self.table.signal_at(place) {
+            Some(signal) => self.values[usize::from(signal)],
+            None => 0,
+        }
     }
 
     // "the time 0 value of the signal sent into it", and 0 where nothing is received.
@@ -46,12 +48,9 @@ impl<'a> Opening<'a> {
         let Some(processor) = self.table.sender_at(place) else {
             return 0;
         };
-        let from = Place { processor, ..place };
-        let location = self.table.send_location_at(from);
-        self.local_value(Place {
-            slot: Slot(location),
-            ..from
-        })
+        let from = place.of_processor(processor);
+        let location = self.table.send_at(from).location();
+        self.local_value(from.at(location))
     }
 
     // Byte a of the memory: "the earlier local half holds time 0", a switch location in both halves what is sent into it, all else is 0.
@@ -67,20 +66,16 @@ impl<'a> Opening<'a> {
         if !self.table.shape.has(place) {
             return 0;
         }
-        let part = a % PROCESSOR_STRIDE / PART_STRIDE;
-        if part == LOCAL_EARLIER {
-            return self.local_value(place);
+        match a % PROCESSOR_STRIDE / PART_STRIDE {
+            LOCAL_EARLIER => self.local_value(place),
+            SWITCH_EARLIER | SWITCH_PRESENT => self.sent_value(place),
+            _ => 0,
         }
-        if part == SWITCH_EARLIER || part == SWITCH_PRESENT {
-            return self.sent_value(place);
-        }
-        0
     }
 }
 
 // The memory before cycle 1, by the time 0 values.
 pub fn load_memory(table: &ModTable, values: &[u8; 4097], memory: &mut Memory)
-    requires empty { get_or values.now 0 0 ≡ 0 }
     ensures { memory.new ≡ opening_with table.now.modfile.now (value_in values.now) }
 {
     let opening = Opening { table, values };

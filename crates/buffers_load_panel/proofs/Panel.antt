@@ -10,6 +10,7 @@ use lib.ListN.{get_or}
 use borrow.Author.Tests.{le-leb, lt-leb, leb-true}
 use Rattle.std.specs.Prelude.{if◌then◌else◌}
 use Rattle.logic.specs.Listed.{listed}
+use Rattle.logic.proofs.Listed.{listed_same}
 use Rattle.gates.specs.Function.{is_function}
 use Rattle.gates.specs.Translation.{is_translation}
 use Rattle.model.specs.Network.{input, unit_delay, rank_order}
@@ -21,7 +22,7 @@ use Rattle.model.proofs.Checked.{checked_signal}
 use Rattle.buffers_tables.specs.Panel.{panel_length, codes_column, hand_column, head_bytes, signal_bytes, signal_of, column_of}
 use Rattle.buffers_load_files.specs.Loaded.{place_of, placed_bytes, panel_byte, panel_with}
 use Rattle.buffers_load_files.specs.Checked.{value_in}
-use Rattle.buffers_load_files.proofs.Arrays.{listed_same, array_at, in_array}
+use Rattle.buffers_load_files.proofs.Arrays.{array_at, in_array}
 
 -- the fields of a signal of a checked NET: kind and codes are below 256
 module _ (net : List ℕ) (checked : Checked net) {s : ℕ} (low : 1 ≤ s) (high : s ≤ net_size net) where

@@ -15,13 +15,14 @@ use file_mod_table::ModTable;
 
 // One of the bytes of the line at a place: the signal takes two, and every other number is below 256.
 // By `as`, in this file, where the bound is proved: no `From` has this conversion, and `TryFrom` has an error that cannot happen.
+#[tactic(auto, unfolding(model::specs::ModuleFile::module_of))]
 fn line_byte(table: &ModTable, place: Place, column: usize) -> u8
     requires within { Within table.now.shape place.processor place.slot.0 }
     requires column_bound { column < line_stride }
     ensures { result ≡ get_or (line_bytes (module_of table.now.modfile.now) place.processor place.slot.0) column 0 }
 {
     if column < OPERAND1 {
-        return table.signal_at(place).to_le_bytes()[column];
+        return table.column_at(place, 2).to_le_bytes()[column];
     }
     table.column_at(place, column + 1) as u8
 }

@@ -22,7 +22,6 @@ use Rattle.model.proofs.Value.{start_given}
 use Rattle.model.proofs.Accepted.{stim_right}
 use Rattle.model.proofs.Checked.{checked_size}
 use Rattle.file_stim.specs.declared.Line.{Line}
-use Rattle.file_stim.specs.declared.Cursor.{Cursor}
 use Rattle.file_stim.proofs.Steps.{GivenAt}
 use Rattle.file_stim.proofs.Passed.{nothing_later}
 use Rattle.buffers_load_files.specs.Loaded.{time_zero_from}
@@ -65,7 +64,7 @@ module _ (net stim : List ℕ) where
       line_value_few = omega (arith, ((stim_right (network net) stim passes).given line h).value)
 
     -- a line of time 0
-    module _ {line : ℕ} {given : Line} {next : Cursor} {values : List ℕ} (so_far : GivenTo net stim line values)
+    module _ {line : ℕ} {given : Line} {next : ℕ} {values : List ℕ} (so_far : GivenTo net stim line values)
         (g : GivenAt stim 0 line given next) where
       there : given_below net stim (line + 1) given.signal ≡ given.value
       unfolding given_below last_given ◌and◌
@@ -86,7 +85,7 @@ module _ (net stim : List ℕ) where
       signal_there : given.signal < length values
       signal_there = omega (arith, so_far.size, g.signal_is, line_signal_few line g.before_end)
 
-      pub given_more : GivenTo net stim next.line (set values given.signal given.value)
+      pub given_more : GivenTo net stim next (set values given.signal given.value)
       given_more =
           record {
             size = length-set values given.signal given.value ∙ so_far.size;

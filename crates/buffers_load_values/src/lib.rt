@@ -11,7 +11,7 @@ ghost use Rattle.buffers_load_files.specs.Loaded.{time_zero_from};
 ghost use Rattle.buffers_load_values.specs.Values.{undefined_to};
 
 use clock::Cycle;
-use file_stim::Cursor;
+use file_stim::{Cursor, Stimulus};
 use netlist::Netlist;
 
 // "or U": what signal s has before STIM gives it a value, and 0 where there is no signal.
@@ -24,14 +24,17 @@ fn undefined_at(signals: usize, s: usize) -> u8
 
 // "At t = 0 every signal has its given value, or U". The lines of time 0 stand first, since times rise.
 // By `as`, in this file, where the bound is proved: no `From` has this conversion, and `TryFrom` has an error that cannot happen.
-pub fn load_values(net: &Netlist, stim: &[u8], values: &mut [u8; 4097])
-    requires { stim_check (network net.now.net.now) stim.now ≡ pass }
-    ensures { values.new ≡ listed 4097 (time_zero_from net.now.net.now stim.now) }
+pub fn load_values(net: &Netlist, stim: Stimulus, values: &mut [u8; 4097])
+    requires { stim_check (network net.now.net.now) stim.bytes.now ≡ pass }
+    ensures { values.new ≡ listed 4097 (time_zero_from net.now.net.now stim.entry.bytes.now) }
 {
     let signals = usize::from(net.signals());
     buffers_load_files::fill_by(values, |s| undefined_at(signals, s));
-    let mut cursor = Cursor { line: 0 };
-    while let Some((line, next)) = cursor.next_of(stim, Cycle(0)) {
+    let mut cursor = Cursor {
+        stimulus: stim,
+        line: 0,
+    };
+    while let Some((line, next)) = cursor.next_of(Cycle(0)) {
         values[usize::from(line.signal)] = line.value as u8;
         cursor = next;
     }

@@ -44,18 +44,6 @@ fn part_base(a: Operand) -> usize
     }
 }
 
-fn location_of(a: Operand) -> usize
-    ensures { (result ≡ location_of a) × (result < 256) }
-{
-    match a {
-        Operand::LocalEarlier(k)
-        | Operand::LocalPresent(k)
-        | Operand::SwitchEarlier(k)
-        | Operand::SwitchPresent(k)
-        | Operand::None(k) => usize::from(k),
-    }
-}
-
 // The value at the location that an operand names. That every byte is a value is asked of the memory and not held by a type: the bytes
 // are lent by C, and written between two calls.
 #[tactic(auto, using(crate::proofs::Fetched::fetched_there))]
@@ -64,7 +52,7 @@ pub fn fetch(memory: &Memory, processor: usize, a: Operand) -> u8
     requires processor_bound { processor < 16 }
     ensures { (result ≡ fetched (memory_of memory.now) processor (part_of a) (location_of a)) × Code result }
 {
-    memory[PROCESSOR_STRIDE * processor + part_base(a) + location_of(a)]
+    memory[PROCESSOR_STRIDE * processor + part_base(a) + usize::from(a.location())]
 }
 
 // A value stored at a location of a part.

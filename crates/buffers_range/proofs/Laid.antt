@@ -1,24 +1,17 @@
 -- What a line in range tells, and back: the signal, the pairs, and the processor received from.
-use Prim.Native.Nat.{ℕ, ◌<◌, ◌≤◌}
+use Prim.Native.Nat.{ℕ}
 use mathlib.Core.Path.{◌≡◌, refl}
 use mathlib.Core.Bool.{Bool, true, false, not}
-use mathlib.Core.Logic.{◌⊎◌, inl, inr, ⊎_elim}
+use mathlib.Core.Logic.{inl, inr, ⊎_elim}
 use lib.Dec.{eqb, leb}
 use borrow.Author.Tests.{leb-true, ltb-true, eqb-true, le-leb, lt-ltb, eq-eqb}
 use Rattle.logic.specs.Test.{◌and◌, ◌or◌}
 use Rattle.logic.proofs.Tests.{and_true, and_left, and_right, or_cases, or_left, or_right, all_at, all_true}
 use Rattle.model.specs.Network.{Network}
-use Rattle.model.specs.Module.{Module, At, Laid, local_present, switch_present, no_part, no_sender}
+use Rattle.model.specs.Module.{Module, local_present, switch_present, no_part}
 use Rattle.model.specs.ModuleFile.{location_layout, operand_layout, send_layout, sender_layout}
-use Rattle.model.proofs.Accepted.{Located, located}
+use Rattle.model.proofs.Accepted.{Located, Line, located}
 use Rattle.buffers_range_program.specs.Ranges.{line_ranged}
-
--- the line of processor p and slot i
-pub record Line (n : Network) (m : Module) (p i : ℕ) : Type 0 where
-  pub signal : m.signal p i ≤ n.size
-  pub operand : (j : ℕ) → j < 4 → Located m switch_present (m.part p i j) (m.location p i j)
-  pub send : Located m local_present (m.send_part p i) (m.send_location p i)
-  pub sender : (m.sender p i < m.processors) ⊎ (m.sender p i ≡ no_sender)
 
 -- a pair that is located, in the words of the layout; `located` is the way back
 located_pair : (m : Module) (most part k : ℕ) → Located m most part k → (leb part most or eqb part no_part) and location_layout m part k ≡ true
@@ -51,14 +44,3 @@ module _ (n : Network) (m : Module) where
       (and_true _ _ (all_true _ 4 (λ j l. located_pair m switch_present (m.part p i j) (m.location p i j) (h.operand j l)))
       (and_true _ _ (located_pair m local_present (m.send_part p i) (m.send_location p i) h.send)
       (⊎_elim (λ l. or_left _ _ (lt-ltb _ _ l)) (λ e. or_right _ _ (eq-eqb _ _ e)) h.sender)))
-
-  pub lines_laid : ((p i : ℕ) → At m p i → Line n m p i) → Laid n m
-  lines_laid h =
-      record {
-        signals = λ p i a. (h p i a).signal;
-        parts = λ p i j a l. ((h p i a).operand j l).part_known;
-        locations = λ p i j a l. ((h p i a).operand j l).low;
-        send_parts = λ p i a. (h p i a).send.part_known;
-        send_locations = λ p i a. (h p i a).send.low;
-        senders = λ p i a. (h p i a).sender;
-      }

@@ -27,7 +27,8 @@ use Rattle.buffers_range.specs.Ranges.{ranged}
 use Rattle.logic.proofs.Judged.{and_false}
 use Rattle.buffers_runs.proofs.Runs.{zeros_true}
 use Rattle.buffers_range_panel.proofs.Numbers.{Head, Numbers, Panel, ranged_panel, panel_ranged_lem, legal_codes}
-use Rattle.buffers_range.proofs.Laid.{Line, ranged_line, line_ranged_lem, lines_laid}
+use Rattle.model.proofs.Accepted.{Line, lines_laid}
+use Rattle.buffers_range.proofs.Laid.{ranged_line, line_ranged_lem}
 use Rattle.buffers_range_program.proofs.Slots.{line_test, used, used_line, unused_byte}
 use Rattle.buffers_range_memory.proofs.Parts.{limit}
 
@@ -150,7 +151,7 @@ module _ (panel program memory : List ℕ) where
         signals_high = (head_ranged_lem h).signals_high;
         processors_high = (head_ranged_lem h).processors_high;
         slots_high = (head_ranged_lem h).slots_high;
-        laid = lines_laid (network_in panel program) (module_in panel program) (program_in_range h).lines;
+        laid = lines_laid (program_in_range h).lines;
         codes = λ s low high. legal_codes panel s (signal_ranged_lem h s low high).codes;
         hands = λ s low high. (signal_ranged_lem h s low high).hand_high;
       }

@@ -43,7 +43,6 @@ fn parts_right(memory: &Memory, processors: u8, slots: u16) -> bool
 }
 
 // The memory, P and C being the panel's.
-// By `as`, in this file, where the bound is proved: no `From` has this conversion, and `TryFrom` has an error that cannot happen.
 #[tactic(auto, using(crate::proofs::Parts::memory_order))]
 pub fn memory_right(panel: &Panel, memory: &Memory) -> bool
     requires slots_high { slots_in panel.now ≤ 256 }
@@ -51,7 +50,7 @@ pub fn memory_right(panel: &Panel, memory: &Memory) -> bool
 {
     parts_right(
         memory,
-        buffers_tables::processors(panel) as u8,
+        buffers_tables::processors(panel),
         buffers_tables::slots(panel),
     )
 }

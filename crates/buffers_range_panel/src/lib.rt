@@ -19,14 +19,13 @@ fn counted(x: u16, most: u16) -> bool
 }
 
 // The session's numbers: "N (1 to 4096)", "P (1 to 16), C (1 to 256)", and the watch.
-// By `as`, in this file, where the bound is proved: no `From` has this conversion, and `TryFrom` has an error that cannot happen.
 #[tactic(auto, using(logic::proofs::Judged::connected), unfolding(crate::specs::Ranges::head_ranged))]
 fn head_right(panel: &Panel) -> bool
     ensures { result ≡ head_ranged panel.now }
 {
     let signals = buffers_tables::signals(panel);
     counted(signals, 4096)
-        && counted(buffers_tables::processors(panel) as u16, 16)
+        && counted(u16::from(buffers_tables::processors(panel)), 16)
         && counted(buffers_tables::slots(panel), 256)
         && counted(buffers_tables::watched(panel), signals)
         && buffers_tables::mask(panel) <= 15
@@ -61,7 +60,8 @@ fn signal_right(panel: &Panel, signal: usize) -> bool
         && u16::from(buffers_tables::place_slot(panel, signal)) < buffers_tables::slots(panel)
 }
 
-// Signals 1 to N, and zeros above N.
+// Signals 1 to N, and zeros above N. They are counted from 0, as `panel_ranged` counts them: of what `1..=signals` gives the library has
+// no law, and this would be the one place that needs it.
 #[tactic(auto, using(logic::proofs::Judged::connected))]
 fn signals_right(panel: &Panel, signals: usize) -> bool
     requires { signals ≤ 4096 }

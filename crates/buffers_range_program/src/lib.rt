@@ -55,7 +55,8 @@ impl<'a> Judged<'a> {
         part + location - none
     }
 
-    // The faults of the four operands of the line at a place: "part 0 to 3 or 9".
+    // The faults of the four operands of the line at a place: "part 0 to 3 or 9". Four calls, and no `sum` over the columns: of a pair it
+    // is told whether there is a fault, and that there are two at most, but not how many, and the laws of `sum` ask for each summand.
     #[tactic(auto, using(crate::proofs::Faults::four_none), unfolding(crate::specs::Order::operands_at))]
     fn operand_faults(&self, at: usize) -> u8
         requires { at + line_stride ≤ program_length }
@@ -81,7 +82,8 @@ impl<'a> Judged<'a> {
     }
 
     // The 16 lines of a slot: those of P processors, and zeros.
-    // A run of records and its zeros is written out here and twice more: one function for the three would take six parameters.
+    // A run of records that are right, and then zeros, is written out here and in `slots_right`, `signals_right` and `part_right`: one
+    // function for the four would take six parameters for a body of two lines.
     fn slot_right(&self, slot: Slot) -> bool
         requires { slot.0 < self.now.slots }
         ensures { result ≡ slot_at self.now.bytes.now slot.0 self.now.signals self.now.processors self.now.slots }
@@ -109,7 +111,6 @@ impl<'a> Judged<'a> {
 }
 
 // The program, N, P and C being the panel's.
-// By `as`, in this file, where the bound is proved: no `From` has this conversion, and `TryFrom` has an error that cannot happen.
 #[tactic(auto, using(crate::proofs::Slots::program_order))]
 pub fn program_right(panel: &Panel, program: &Program) -> bool
     requires sizes_high { (processors_in panel.now ≤ 16) × (slots_in panel.now ≤ 256) }
@@ -118,7 +119,7 @@ pub fn program_right(panel: &Panel, program: &Program) -> bool
     let judged = Judged {
         bytes: program,
         signals: buffers_tables::signals(panel),
-        processors: buffers_tables::processors(panel) as u8,
+        processors: buffers_tables::processors(panel),
         slots: buffers_tables::slots(panel),
     };
     judged.slots_right()

@@ -2,7 +2,7 @@
 -- passes of the largest.
 use Prim.Native.Nat.{ℕ, zero, suc, ◌+◌, ◌-◌, ◌<◌, ◌≤◌, max}
 use mathlib.Core.Path.{◌≡◌, refl, subst, ◌∙◌, ap}
-use mathlib.Core.Bool.{Bool, true}
+use mathlib.Core.Bool.{Bool, true, false}
 use mathlib.Core.Logic.{⊎_elim}
 use mathlib.Core.List.{List}
 use native.Mathlib.Omega.{arith}
@@ -11,7 +11,9 @@ use lib.Dec.{eqb, leb}
 use lib.ListN.{length, get_or, take, drop}
 use Rattle.std.proofs.Math.Nat.{le-max_left, le-max_right, max-eq_left, max-eq_right}
 use Rattle.std.proofs.lemmas.Bool.{cases_lt}
-use Rattle.std.proofs.lemmas.List.{get_or-take, get_or-drop, length-take}
+use Rattle.std.specs.List.{fold}
+use Rattle.std.proofs.lemmas.List.{get_or-drop, length-drop}
+use Rattle.std.proofs.lemmas.List.Sums.{fold_more}
 use borrow.Author.Tests.{leb-true, le-leb, eqb-true, eq-eqb}
 use Rattle.logic.specs.Test.{◌and◌, all}
 use Rattle.logic.proofs.Tests.{all_at, all_true, and_true, and_left, and_right}
@@ -52,13 +54,12 @@ module _ (bytes : List ℕ) (at n : ℕ) where
   unfolding is_translation
   largest_translations = largest_limit 6
 
--- one byte more of a run that is taken as a slice
-pub largest_more : (bytes : List ℕ) (at n i best r : ℕ) → best ≡ largest_of bytes at i → i < length (take n (drop at bytes))
-    → r ≡ max best (get_or (take n (drop at bytes)) i 0) → r ≡ largest_of bytes at (i + 1)
+-- a run that is taken as a slice and folded
+pub largest_folded : (bytes : List ℕ) (at n : ℕ) → at + n ≤ length bytes → fold max 0 (take n (drop at bytes)) ≡ largest_of bytes at n
 unfolding largest_of
-largest_more bytes at n i best r e l h =
-    let few : i < n = omega (arith, length-take n (drop at bytes)) in
-    rw (add-one, ← get_or-drop at bytes i 0, ← get_or-take n (drop at bytes) i 0 few, ← e) h
+largest_folded bytes at zero h = refl
+largest_folded bytes at (suc n) h =
+    rw (← add-one, fold_more max 0 (drop at bytes) n 0 (omega (arith, length-drop at bytes)), get_or-drop at bytes n 0, largest_folded bytes at n (omega arith))
 
 -- the bytes of a run of zeros, and back
 module _ (bytes : List ℕ) (at n : ℕ) where
@@ -71,3 +72,13 @@ module _ (bytes : List ℕ) (at n : ℕ) where
   pub zeros_true : ((x : ℕ) → at ≤ x → x < at + n → get_or bytes x 0 ≡ 0) → zeros bytes at n ≡ true
   unfolding zeros
   zeros_true h = all_true (λ k. eqb (get_or bytes (at + k) 0) 0) n (λ k l. eq-eqb (get_or bytes (at + k) 0) 0 (h (at + k) (omega arith) (omega arith)))
+
+-- what `r && x` of the code answers, r being what a run of records is judged to be
+module _ {r a : Bool} (b : Bool) (judged : r ≡ a) where
+  pub run_passes : r ≡ true → {x : Bool} → x ≡ b → x ≡ a and b
+  unfolding ◌and◌
+  run_passes t e = rw (← judged, t) e
+
+  pub run_fails : r ≡ false → r ≡ a and b
+  unfolding ◌and◌
+  run_fails t = rw (← judged, t)

@@ -10,19 +10,17 @@ ghost use Rattle.buffers_runs.specs.Zeros.{zeros};
 ghost use Rattle.buffers_runs.specs.Largest.{largest_of};
 
 // The largest of `count` bytes starting at `at`.
-#[tactic(auto, using(crate::proofs::Runs::largest_more), unfolding(crate::specs::Largest::largest_of))]
 fn largest(bytes: &[u8], at: usize, count: usize) -> u8
     requires { at + count ≤ length bytes.now }
     ensures { result ≡ largest_of bytes.now at count }
 {
-    let mut best: u8 = 0;
-    for &byte in &bytes[at..at + count] {
-        best = best.max(byte);
-    }
-    best
+    bytes[at..at + count]
+        .iter()
+        .fold(0, |best, &byte| best.max(byte))
 }
 
-// `count` bytes starting at `at` are 0, as every number that is not in use (D25).
+// `count` bytes starting at `at` are 0, as every number that is not in use (D25). The three tests of a largest byte have each the name of
+// their definition.
 #[tactic(auto, using(crate::proofs::Runs::largest_zeros))]
 pub fn all_zero(bytes: &[u8], at: usize, count: usize) -> bool
     requires { at + count ≤ length bytes.now }

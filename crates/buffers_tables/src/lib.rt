@@ -78,10 +78,10 @@ pub fn signals(panel: &Panel) -> u16
 }
 
 // P: the processors of the module.
-pub fn processors(panel: &Panel) -> usize
-    ensures { (result ≡ processors_in panel.now) × (result < 256) }
+pub fn processors(panel: &Panel) -> u8
+    ensures { result ≡ processors_in panel.now }
 {
-    usize::from(panel[PROCESSORS])
+    panel[PROCESSORS]
 }
 
 // C: the slots of a cycle.
@@ -146,11 +146,11 @@ pub fn hand(panel: &Panel, signal: usize) -> u8
 }
 
 // The processor and the slot of a signal's place.
-pub fn place_processor(panel: &Panel, signal: usize) -> usize
+pub fn place_processor(panel: &Panel, signal: usize) -> u8
     requires { signal ≤ 4096 }
-    ensures { (result ≡ processor_in panel.now signal) × (result < 256) }
+    ensures { result ≡ processor_in panel.now signal }
 {
-    usize::from(panel[PANEL_STRIDE * signal + PROCESSOR])
+    panel[PANEL_STRIDE * signal + PROCESSOR]
 }
 
 pub fn place_slot(panel: &Panel, signal: usize) -> u8

@@ -3,14 +3,16 @@
 
 #![tactic(auto)]
 
-ghost use Rattle.std.specs.Prelude.{◌≡◌, ◌≤◌, length, take};
+ghost use Rattle.std.specs.Prelude.{◌≡◌, ◌≤◌, length, take, is_err};
 ghost use Rattle.model.specs.Files.{files_of};
-ghost use Rattle.listing_print.specs.Handing.{bytes_of, unprinted, Handing};
+ghost use Rattle.file_bytes.specs.Bytes.{bytes_of};
+ghost use Rattle.listing_print.specs.Handing.{unprinted, parts_of, Handing};
 ghost use Rattle.cavundir.specs.Output.{RunPrints};
 
+use file_bytes::FileBytes;
 use file_checks::{check_mod, check_net, check_stim};
 use file_reading::read_file;
-use listing_print::{Printed, ReadFiles, print_listing, print_refusal, zeroed};
+use listing_print::{CutShort, Printed, print_listing, print_refusal, zeroed};
 use netlist::Netlist;
 use std::fs::File;
 use std::rt::Files;
@@ -26,11 +28,11 @@ struct Read {
 
 impl Read {
     // The bytes that were read, in their buffers.
-    fn of<'a>(&self, net: &'a [u8], modfile: &'a [u8], stim: &'a [u8]) -> ReadFiles<'a>
+    fn of<'a>(&self, net: &'a [u8], modfile: &'a [u8], stim: &'a [u8]) -> FileBytes<'a>
         requires within { (self.now.net ≤ length net.now) × (self.now.modfile ≤ length modfile.now) × (self.now.stim ≤ length stim.now) }
         ensures { bytes_of result ≡ files_of (take self.now.net net.now) (take self.now.modfile modfile.now) (take self.now.stim stim.now) }
     {
-        ReadFiles {
+        FileBytes {
             net: &net[..self.net],
             modfile: &modfile[..self.modfile],
             stim: &stim[..self.stim],
@@ -38,17 +40,17 @@ impl Read {
     }
 }
 
-// "Order: NET, MOD, STIM": each is checked before the next is read.
+// "Order: NET, MOD, STIM": each is checked before the next is read. It answers how much was read on every way out, and so stops by no `?`.
 fn run(
     rt: &(impl Files<File = File> + Print),
     net: &mut [u8],
     modfile: &mut [u8],
     stim: &mut [u8],
-    printed: &mut Printed,
-) -> Read
-    requires { printed.old ≡ unprinted }
-    ensures handed { Handing (files_of (take result.net net.new) (take result.modfile modfile.new) (take result.stim stim.new)) printed.new.parts printed.new.failed }
-    ensures prints { RunPrints (files_of (take result.net net.new) (take result.modfile modfile.new) (take result.stim stim.new)) printed.new.parts printed.new.failed }
+    printed: Printed,
+) -> (Read, Result<Printed, CutShort>)
+    requires { printed ≡ unprinted }
+    ensures handed { Handing (files_of (take result.0.net net.new) (take result.0.modfile modfile.new) (take result.0.stim stim.new)) (parts_of result.1) (is_err result.1) }
+    ensures prints { RunPrints (files_of (take result.0.net net.new) (take result.0.modfile modfile.new) (take result.0.stim stim.new)) (parts_of result.1) (is_err result.1) }
 {
     let mut read = Read {
         net: 0,
@@ -58,32 +60,34 @@ fn run(
     read.net = read_file(rt, b"NET", net);
     let first = check_net(&net[..read.net]);
     let Ok(()) = first else {
-        print_refusal(rt, &read.of(net, modfile, stim), first, printed);
-        return read;
+        let files = read.of(net, modfile, stim);
+        let printed = print_refusal(rt, &files, first.unwrap_err(), printed);
+        return (read, printed);
     };
     let netlist = Netlist::new(&net[..read.net]);
     read.modfile = read_file(rt, b"MOD", modfile);
     let second = check_mod(&netlist, &modfile[..read.modfile]);
     let Ok(()) = second else {
-        print_refusal(rt, &read.of(net, modfile, stim), second, printed);
-        return read;
+        let files = read.of(net, modfile, stim);
+        let printed = print_refusal(rt, &files, second.unwrap_err(), printed);
+        return (read, printed);
     };
     read.stim = read_file(rt, b"STIM", stim);
     let third = check_stim(&netlist, &stim[..read.stim]);
     let Ok(lines) = third else {
-        let answer = third.map(|_| ());
-        print_refusal(rt, &read.of(net, modfile, stim), answer, printed);
-        return read;
+        let files = read.of(net, modfile, stim);
+        let printed = print_refusal(rt, &files, third.unwrap_err(), printed);
+        return (read, printed);
     };
-    print_listing(rt, &read.of(net, modfile, stim), lines, printed);
-    read
+    let files = read.of(net, modfile, stim);
+    (read, print_listing(rt, &files, lines, printed))
 }
 
-// A file is read up to one byte more than it may have: such a byte is surplus, whatever follows it.
+// A file is read up to one byte more than it may have: such a byte is surplus, whatever follows it. A write that failed is told to nobody:
+// the program has nothing but its output to tell it by.
 fn main(rt: HostRuntime) {
     let mut net = zeroed::<299082>();
     let mut modfile = zeroed::<348246>();
     let mut stim = zeroed::<1245147>();
-    let mut printed = Printed::new();
-    run(&rt, &mut net, &mut modfile, &mut stim, &mut printed);
+    let _ = run(&rt, &mut net, &mut modfile, &mut stim, Printed::new());
 }

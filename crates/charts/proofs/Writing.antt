@@ -4,14 +4,14 @@ use mathlib.Core.Path.{◌≡◌, refl, sym, ◌∙◌, ap, ap₂}
 use Rattle.std.proofs.Common.{append_assoc}
 use borrow.Rule.Slice.PartMut.{put_mid}
 use Rattle.fields.specs.Field.{space}
-use Rattle.std.proofs.lemmas.List.{drop-drop, length-take, length-drop, length-replicate, get_or-replicate}
+use Rattle.std.proofs.lemmas.List.{drop-drop, length-take, length-drop}
 use mathlib.Core.List.{List, [], ◌∷◌, ◌++◌}
 use native.Mathlib.Omega.{arith}
 use native.Mathlib.Numerals.{add-one}
 use lib.ListN.{length, set, take, drop, get_or, replicate, length-append}
 use lib.Seq.{sets, length-sets, sets-eq}
 use Rattle.logic.specs.Listed.{listed}
-use Rattle.logic.proofs.Listed.{listed_length, listed_more, listed_same, is_listed}
+use Rattle.logic.proofs.Listed.{listed_length, listed_more, listed_same, filled}
 use Rattle.writing.specs.Text.{field_text}
 use Rattle.writing.proofs.Writing.{length_text, sets_append}
 use Rattle.model.specs.Listing.{joined}
@@ -30,15 +30,12 @@ put_sets l xs at k size inside =
     ∙ sym (append_assoc (take at l) xs (drop (at + length xs) l))
     ∙ sym (sets-eq xs l at (omega arith))
 
-pub spaces_filled : (n : ℕ) → replicate n space ≡ spaces n
-spaces_filled n = is_listed (replicate n space) n (λ _. space) (length-replicate n space) (λ i low. get_or-replicate n i space 0 low)
-
 pub spaces_put : (l new : List ℕ) (at count : ℕ) → at + count ≤ length l → new ≡ replicate (length (take (at + count - at) (drop at l))) space
     → put_mid at (at + count - at) l new ≡ sets l at (spaces count)
 spaces_put l new at count inside e =
     let part : at + count - at ≡ count = omega arith in
     let size : length (take (at + count - at) (drop at l)) ≡ count = omega (arith, length-take (at + count - at) (drop at l), length-drop at l) in
-    ap₂ (λ (k : ℕ) (xs : List ℕ). put_mid at k l xs) part (e ∙ ap (λ (n : ℕ). replicate n space) size ∙ spaces_filled count)
+    ap₂ (λ (k : ℕ) (xs : List ℕ). put_mid at k l xs) part (e ∙ ap (λ (n : ℕ). replicate n space) size ∙ filled count space)
     ∙ put_sets l (spaces count) at count (sym (listed_length count (λ _. space))) inside
 
 -- pieces of one length

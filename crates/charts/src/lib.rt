@@ -76,7 +76,7 @@ impl Refusal for ChartRefusal {
     }
 }
 
-// A buffer lent with another length than its fixed one.
+// A buffer lent with another length than its fixed one. Each type of refusals has an impl of its own, since `?` asks for one.
 impl From<TryFromSliceError> for ChartRefusal {
     ghost use Rattle.charts.specs.declared.ChartRefusal.TheVariants.{WrongLength};
 
@@ -148,13 +148,13 @@ fn write_spaces(page: &mut [u8], at: usize, count: usize)
     page[at..at + count].fill(b' ');
 }
 
-// The values of some cycles, written at a place.
+// The values of some cycles, written at a place, by the index of each: of what an adapter of `iter_mut` wrote, a proof knows nothing.
 fn write_glyphs(page: &mut [u8], at: usize, values: &[u8])
     requires { at + length values.now ≤ length page.old }
     ensures { page.new ≡ sets page.old at (listed (length values.now) (λ c. glyph_of (get_or values.now c 0))) }
 {
-    for c in 0..values.len() {
-        page[at + c] = glyph(values[c]);
+    for (c, &value) in values.iter().enumerate() {
+        page[at + c] = glyph(value);
     }
 }
 
@@ -253,9 +253,7 @@ fn chart_checked(
     let signals: &[u8; SIGNALS_BYTES] = signals.try_into()?;
     let values: &[u8; VALUES_BYTES] = values.try_into()?;
     // `as_mut_array` says, as `try_into` does not, what the slice holds in the end.
-    let Some(page) = page.as_mut_array() else {
-        return Err(ChartRefusal::WrongLength);
-    };
+    let page = page.as_mut_array().ok_or(ChartRefusal::WrongLength)?;
     check_counts(count, first, cycles)?;
     let plot = Plot {
         signals,

@@ -1,6 +1,6 @@
 -- The columns at a place of a file, and what reading them answers.
 use Prim.Native.Nat.{ℕ, suc, ◌+◌, ◌<◌, ◌≤◌}
-use mathlib.Core.Path.{◌≡◌, refl, subst}
+use mathlib.Core.Path.{◌≡◌, refl}
 use mathlib.Core.Bool.{Bool, true, false}
 use mathlib.Core.List.{List, [], ◌∷◌}
 use native.Mathlib.Omega.{arith}
@@ -9,7 +9,7 @@ use mathlib.Core.Logic.{◌⊎◌, inl, inr}
 use lib.ListN.{length, get_or, take, drop, length-take, length-drop}
 use lib.Seq.{drop-cons, take-length}
 use borrow.Author.Tests.{ne_eqb, eq-eqb}
-use Rattle.std.specs.Prelude.{Option, Some, None}
+use Rattle.std.specs.Prelude.{Some, None}
 use Rattle.std.specs.List.{slice_range}
 use Rattle.logic.specs.Test.{◌and◌}
 use Rattle.fields.specs.Field.{columns_at, is_field, is_field_at, is_numeral, after_spaces, number}
@@ -17,7 +17,7 @@ use Rattle.fields.specs.Reading.{read_field}
 use Rattle.fields.specs.Scan.{scans, number_of}
 use lib.Dec.{eqb}
 use Rattle.fields.specs.declared.Scan.{Scan}
-use Rattle.fields.specs.declared.Scan.TheVariants.{Blank, Digits, Bad}
+use Rattle.fields.specs.declared.Scan.TheVariants.{Blank, Digits}
 use Rattle.fields.proofs.Scanning.{scans_numeral, scans_found}
 
 abbrev pub six : List ℕ → ℕ → List ℕ
@@ -46,26 +46,28 @@ module _ (l : List ℕ) (at : ℕ) (h : at + 6 ≤ length l) where
   six_columns : eqb (length (columns_at l at)) 6 ≡ true
   six_columns = eq-eqb (length (columns_at l at)) 6 (omega (arith, length-take 6 (drop at l), length-drop at l))
 
-  pub field_found : (n : ℕ) → number_of (scans Blank (columns_at l at)) ≡ Some n → read_field l at ≡ Some (n, at + 6)
+  pub field_found : (s : Scan) (n : ℕ) → scans Blank (columns_at l at) ≡ Some s → number_of s ≡ Some n → read_field l at ≡ Some (n, at + 6)
   unfolding read_field is_field number ◌and◌
-  field_found n found = go (scans Blank (columns_at l at)) refl found
-    where
-      go : (s : Scan) → scans Blank (columns_at l at) ≡ s → number_of s ≡ Some n → read_field l at ≡ Some (n, at + 6)
-      go (Digits m) e q = let f = scans_found (columns_at l at) m e in let same : m ≡ n = cc in rw (six_columns, f.form, f.is, same)
-      go Blank e q = absurd (let z : ◌≡◌ {A = ℕ} 0 1 = cc in omega arith)
-      go Bad e q = absurd (let z : ◌≡◌ {A = ℕ} 0 1 = cc in omega arith)
+  field_found (Digits m) n e q =
+      let f = scans_found (columns_at l at) m e in
+      let same : m ≡ n = cc in
+      rw (six_columns, f.form, f.is, same)
+  field_found Blank n e q = absurd (let z : ◌≡◌ {A = ℕ} 0 1 = cc in omega arith)
 
-  pub field_missed : number_of (scans Blank (columns_at l at)) ≡ None → read_field l at ≡ None
+  missed : ((m : ℕ) → scans Blank (columns_at l at) ≡ Some (Digits m) → ⊥) → read_field l at ≡ None
   unfolding read_field is_field ◌and◌
-  field_missed missed = go (is_numeral (after_spaces (columns_at l at))) refl
+  missed other = go (is_numeral (after_spaces (columns_at l at))) refl
     where
-      none : (n : ℕ) → ◌≡◌ {A = Option ℕ} (Some n) None → read_field l at ≡ None
-      none n q = absurd (let z : ◌≡◌ {A = ℕ} 0 1 = cc in omega arith)
-
       go : (b : Bool) → is_numeral (after_spaces (columns_at l at)) ≡ b → read_field l at ≡ None
       go false e = rw (six_columns, e)
-      go true e =
-          none (number (columns_at l at)) (subst (λ (s : Scan). number_of s ≡ None) (scans_numeral (columns_at l at) e) missed)
+      go true e = absurd (other (number (columns_at l at)) (scans_numeral (columns_at l at) e))
+
+  pub scan_missed : scans Blank (columns_at l at) ≡ None → read_field l at ≡ None
+  scan_missed e = missed (λ m q. let z : ◌≡◌ {A = ℕ} 0 1 = cc in omega arith)
+
+  pub number_missed : (s : Scan) → scans Blank (columns_at l at) ≡ Some s → number_of s ≡ None → read_field l at ≡ None
+  number_missed Blank e q = missed (λ m f. let z : ◌≡◌ {A = ℕ} 0 1 = cc in omega arith)
+  number_missed (Digits m) e q = absurd (let z : ◌≡◌ {A = ℕ} 0 1 = cc in omega arith)
 
 -- a piece of a field, at the end of a file, is none
 pub field_cut : (l : List ℕ) (at : ℕ) → length l < at + 6 → is_field_at l at ≡ false

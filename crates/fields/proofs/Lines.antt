@@ -1,6 +1,6 @@
 -- What reading a line answers, from the answers of its fields.
 use Prim.Native.Nat.{ℕ, ◌+◌, ◌*◌, ◌<◌, ◌≤◌}
-use mathlib.Core.Path.{◌≡◌, refl, sym, ap}
+use mathlib.Core.Path.{◌≡◌, refl, sym, ap, ◌∙◌}
 use mathlib.Core.Bool.{Bool, true, false}
 use mathlib.Core.List.{List}
 use native.Mathlib.Omega.{arith}
@@ -12,7 +12,8 @@ use Rattle.logic.proofs.Tests.{all_more, all_fails}
 use Rattle.fields.specs.Field.{is_field_at, number_at}
 use Rattle.fields.specs.Line.{newline, is_line_at, line_length}
 use Rattle.fields.specs.Reading.{read_field, read_line}
-use Rattle.std.specs.Prelude.{Option, Some, None}
+use Rattle.std.specs.Prelude.{Option, Some, None, Ok, Err}
+use Rattle.std.specs.Option.{ok_or}
 
 -- what the answer of a field tells
 record LineRight (l : List ℕ) (at n next : ℕ) : Type 0 where
@@ -44,23 +45,23 @@ field_wrong l at e = go (is_field_at l at) e
     go true q = absurd (let z : ◌≡◌ {A = ℕ} 0 1 = cc in omega arith)
     go false q = refl
 
--- what the answer of a line tells
-module _ (l : List ℕ) (at n : ℕ) where
-  pub line_right : (next : ℕ) → read_line l at n ≡ Some next → is_line_at l at n ≡ true
+-- what the answer r of a line tells, where a line that is not right is refused with e
+module _ (l : List ℕ) (at n : ℕ) {r : Option ℕ} (read : r ≡ read_line l at n) {E : Type 0} (e : E) where
+  pub line_right : {next : ℕ} → Ok next ≡ ok_or r e → is_line_at l at n ≡ true
   unfolding read_line
-  line_right next e = go (is_line_at l at n) e
+  line_right {next} answer = go (is_line_at l at n) (answer ∙ ap (λ (o : Option ℕ). ok_or o e) read)
     where
-      go : (b : Bool) → (if b then Some (at + line_length n) else None) ≡ Some next → b ≡ true
+      go : (b : Bool) → Ok next ≡ ok_or (if b then Some (at + line_length n) else None) e → b ≡ true
       go true q = refl
       go false q = absurd (let z : ◌≡◌ {A = ℕ} 0 1 = cc in omega arith)
 
-  pub line_wrong : read_line l at n ≡ None → is_line_at l at n ≡ false
+  pub line_wrong : {f : E} → Err f ≡ ok_or r e → (is_line_at l at n ≡ false) × (f ≡ e)
   unfolding read_line
-  line_wrong e = go (is_line_at l at n) e
+  line_wrong {f} answer = go (is_line_at l at n) (answer ∙ ap (λ (o : Option ℕ). ok_or o e) read)
     where
-      go : (b : Bool) → (if b then Some (at + line_length n) else None) ≡ None → b ≡ false
+      go : (b : Bool) → Err f ≡ ok_or (if b then Some (at + line_length n) else None) e → (b ≡ false) × (f ≡ e)
       go true q = absurd (let z : ◌≡◌ {A = ℕ} 0 1 = cc in omega arith)
-      go false q = refl
+      go false q = (refl, cc)
 
 -- a line of n fields read in a loop: its first k fields are right, and the next one stands at place
 pub record FieldsRight (l : List ℕ) (at n k place : ℕ) : Type 0 where
@@ -95,3 +96,7 @@ module _ {l : List ℕ} {at n k place : ℕ} (read : FieldsRight l at n k place)
   fields_end h e =
       let end : k ≡ n = omega (arith, read.few) in
       rw (← end, read.right, ← read.here, e)
+
+  -- the same, the place being that after n fields
+  pub line_ends : n ≤ k → {end : ℕ} → end ≡ at + 6 * n → {r : Bool} → r ≡ eqb (get_or l end 0) newline → is_line_at l at n ≡ r
+  line_ends h {end} is e = let same : end ≡ place = omega (arith, read.few, read.here) in fields_end h (rw same at e)

@@ -9,59 +9,58 @@ ghost use Rattle.fields.specs.Line.{newline};
 ghost use Rattle.fields.specs.Reading.{read_field, read_line};
 ghost use Rattle.fields.specs.Scan.{extended, scan, scans, number_of, low_number};
 
-// What the columns passed so far are: spaces alone, a number, or the beginning of no right field.
+mod line;
+
+pub use line::Line;
+
+// What the columns passed so far are, where they may begin a right field: spaces alone, or a number.
 #[derive(Clone, Copy, Debug, PartialEq, Eq)]
 pub enum Scan {
     Blank,
     Digits(u16),
-    Bad,
 }
 
 // A digit after the number n. 0 begins no other number, and no number is above 65535.
 #[tactic(auto, using(logic::proofs::Tests::decided), unfolding(crate::specs::Scan::extended))]
-fn extend(n: u16, digit: u8) -> Scan
+fn extend(n: u16, digit: u8) -> Option<u16>
     ensures { result ≡ extended n digit }
 {
     if n == 0 {
-        return Scan::Bad;
+        return None;
     }
     let next = 10 * u32::from(n) + u32::from(digit);
-    match u16::try_from(next) {
-        Ok(number) => Scan::Digits(number),
-        Err(_) => Scan::Bad,
-    }
+    u16::try_from(next).ok()
 }
 
 // The column c after spaces alone.
 #[tactic(auto, using(crate::proofs::Digit::digits), unfolding(crate::specs::Scan::scan))]
-fn first_column(c: u8) -> Scan
+fn first_column(c: u8) -> Option<Scan>
     ensures { result ≡ scan Scan.Blank c }
 {
     match c {
-        b' ' => Scan::Blank,
-        b'0'..=b'9' => Scan::Digits(u16::from(c - b'0')),
-        _ => Scan::Bad,
+        b' ' => Some(Scan::Blank),
+        b'0'..=b'9' => Some(Scan::Digits(u16::from(c - b'0'))),
+        _ => None,
     }
 }
 
 // The column c after the number n.
 #[tactic(auto, using(crate::proofs::Digit::digits), unfolding(crate::specs::Scan::scan))]
-fn next_column(n: u16, c: u8) -> Scan
+fn next_column(n: u16, c: u8) -> Option<Scan>
     ensures { result ≡ scan (Scan.Digits n) c }
 {
     match c {
-        b'0'..=b'9' => extend(n, c - b'0'),
-        _ => Scan::Bad,
+        b'0'..=b'9' => extend(n, c - b'0').map(Scan::Digits),
+        _ => None,
     }
 }
 
-fn scan_column(state: Scan, c: u8) -> Scan
+fn scan_column(state: Scan, c: u8) -> Option<Scan>
     ensures { result ≡ scan state c }
 {
     match state {
         Scan::Blank => first_column(c),
         Scan::Digits(n) => next_column(n, c),
-        Scan::Bad => Scan::Bad,
     }
 }
 
@@ -71,17 +70,17 @@ fn number_of(state: Scan) -> Option<u16>
 {
     match state {
         Scan::Digits(n) => Some(n),
-        Scan::Blank | Scan::Bad => None,
+        Scan::Blank => None,
     }
 }
 
-// What the columns of a field are.
-fn scan_columns(columns: &[u8; 6]) -> Scan
+// What the columns of a field are, or none that begin one.
+fn scan_columns(columns: &[u8; 6]) -> Option<Scan>
     ensures { result ≡ scans Scan.Blank columns.now }
 {
     columns
         .iter()
-        .fold(Scan::Blank, |state, &c| scan_column(state, c))
+        .try_fold(Scan::Blank, |state, &c| scan_column(state, c))
 }
 
 // The field at a place: its number with the place after it, or none that is right. Nothing is read past the slice's end. Not inlined, the
@@ -91,7 +90,7 @@ pub fn read_field(s: &[u8], at: usize) -> Option<(u16, usize)>
     ensures { result ≡ read_field s.now at }
 {
     let columns = s.get(at..)?.first_chunk::<6>()?;
-    let number = number_of(scan_columns(columns))?;
+    let number = number_of(scan_columns(columns)?)?;
     Some((number, at + 6))
 }
 

@@ -4,15 +4,16 @@
 
 ghost use Rattle.std.specs.Prelude.{◌≡◌, ◌≤◌, length};
 ghost use Rattle.std.proofs.lemmas.List.Edits.{sets};
-ghost use Rattle.model.specs.Files.{files_of};
 ghost use Rattle.model.specs.Netlist.{network, net_check};
 ghost use Rattle.model.specs.ModuleFile.{mod_check};
 ghost use Rattle.model.specs.Stimulus.{stim_check, stim_count};
 ghost use Rattle.model.specs.Acceptance.{panel_limit, file_check};
+ghost use Rattle.file_bytes.specs.Bytes.{bytes_of};
 ghost use Rattle.file_lines.specs.Answer.{answered, Answers};
 ghost use Rattle.file_checks.specs.Answer.{file_refusal};
 ghost use Rattle.file_checks.specs.Refused.{refused_text};
 
+use file_bytes::FileBytes;
 use file_lines::Refusal;
 use file_mod_lines::ModRefusal;
 use file_net::NetRefusal;
@@ -97,23 +98,24 @@ pub fn check_stim(net: &Netlist, stim: &[u8]) -> Result<u16, FileRefusal>
 
 // "Order: NET, MOD, STIM." The first that breaks its conditions is refused, before the next is read: taken apart by let-else there, and not
 // by `?`, as document 01 names it.
-pub fn check_files(net: &[u8], modfile: &[u8], stim: &[u8]) -> Result<(), FileRefusal>
-    ensures { answered file_refusal result ≡ file_check panel_limit (files_of net.now modfile.now stim.now) }
+pub fn check_files(files: &FileBytes) -> Result<(), FileRefusal>
+    ensures { answered file_refusal result ≡ file_check panel_limit (bytes_of files.now) }
 {
-    let first = check_net(net);
+    let first = check_net(files.net);
     let Ok(()) = first else {
         return first;
     };
-    let net = Netlist::new(net);
-    let second = check_mod(&net, modfile);
+    let net = Netlist::new(files.net);
+    let second = check_mod(&net, files.modfile);
     let Ok(()) = second else {
         return second;
     };
-    check_stim(&net, stim)?;
+    check_stim(&net, files.stim)?;
     Ok(())
 }
 
-// "prints one line of two fields, number and returned value": nothing where the files are accepted.
+// "prints one line of two fields, number and returned value": nothing where the files are accepted, which is promised, too, so that an
+// answer is taken and not a refusal alone.
 // By `as`, in this file, where the bound is proved: no `From` has this conversion, and `TryFrom` has an error that cannot happen.
 pub fn write_refusal(answer: Result<(), FileRefusal>, out: &mut [u8]) -> usize
     requires { 13 ≤ length out.old }

@@ -1,9 +1,11 @@
 -- The stages of a check, joined by `first`: an answer that refuses is the whole check's (`stops`), and one that accepts leaves the
 -- check to the next stage (`passes`, `after`).
 use Prim.Native.Nat.{ℕ}
-use mathlib.Core.Path.{◌≡◌, sym, ap, ◌∙◌}
+use mathlib.Core.Path.{◌≡◌, refl, sym, ap, ◌∙◌}
 use native.Mathlib.Omega.{arith}
 use Rattle.std.specs.Prelude.{Result, Ok, Err}
+use Rattle.std.specs.Result.{IsErrAnd}
+use Rattle.std.proofs.lemmas.Result.{err_from_is_err_and}
 use Rattle.model.specs.Refusal.{Check, pass, fail, first}
 use Rattle.model.proofs.Refusals.{pass_not_fail, first_left, first_second, first_failed}
 use Rattle.file_lines.specs.Answer.{answered, Answers}
@@ -61,3 +63,26 @@ module _ {A E : Type 0} {refusal : E → Check} where
 module _ {A B E : Type 0} {refusal : E → Check} {x : A} {y : B} {check : Check} {r : Result A E} (answers : Answers refusal x check r) where
   pub stops : {e : E} → r ≡ Err e → (rest : Check) → Answers refusal y (first check rest) (Err e)
   stops is rest = stays rest (fails answers is) (refuses answers is)
+
+-- what the exit of a `?` hands out
+pub handed : {A E : Type 0} {refusal : E → Check} {x : A} {check : Check} {e : E} {r : Result A E} → IsErrAnd r (λ y. y ≡ e)
+    → Answers refusal x check (Err e) → Answers refusal x check r
+handed {r = r} is answers = let p = err_from_is_err_and r is in rw (p.1, p.2) answers
+
+-- the ways out of a check of stages, each answered by what its stage ensures: the stage accepts, and leaves the check to the next; it
+-- refuses; it is the last, and refuses or accepts
+module _ {A B E : Type 0} {refusal : E → Check} {x : A} {y : B} {check : Check} where
+  pub stage_passed : (rest : Check) {s : A} (r : Result B E) → Answers refusal x check (Ok s) → Answers refusal y rest r
+      → Answers refusal y (first check rest) r
+  stage_passed rest r answers = after (passes answers refl)
+
+  pub stage_refused : (rest : Check) {e : E} (r : Result B E) → Answers refusal x check (Err e) → IsErrAnd r (λ z. z ≡ e)
+      → Answers refusal y (first check rest) r
+  stage_refused rest r answers is = handed is (stops answers refl rest)
+
+  pub last_refused : {e : E} (r : Result B E) → Answers refusal x check (Err e) → IsErrAnd r (λ z. z ≡ e) → Answers refusal y check r
+  last_refused r answers is =
+      handed is (record { refuses = fails answers refl; accepts = λ p. absurd (refuses answers refl p) })
+
+  pub last_passed : {s : A} {z : B} → Answers refusal x check (Ok s) → z ≡ y → Answers refusal y check (Ok z)
+  last_passed answers is = accepted (ap Ok is) (passes answers refl)

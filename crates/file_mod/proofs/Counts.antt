@@ -19,7 +19,7 @@ use Rattle.file_mod_lines.specs.Answer.{Sized}
 use Rattle.model.specs.Refusal.{pass, fail, unless}
 use Rattle.model.specs.Network.{Network}
 use Rattle.file_mod.specs.Counting.{once, counted_once}
-use Rattle.model.proofs.Refusals.{unless_pass, below_same}
+use Rattle.model.proofs.Refusals.{unless_pass, below_all, below_first, below_same}
 use Rattle.file_lines.proofs.Lines.{test_fails}
 use Rattle.file_mod_lines.proofs.Lines.{line_index, line_total}
 
@@ -100,15 +100,28 @@ module _ (counts l : List ℕ) (k x : ℕ) (long : length counts ≡ 4097) (smal
           ap one (ne_eqb (mod_field l (k + 1) 2) s (λ (e : mod_field l (k + 1) 2 ≡ s). d (sym (is ∙ e)))) in
           omega (arith, more, before s low, get_or-set_other counts x s (get_or counts x 0 + 1) 0 d)
 
--- signal k + 1
-module _ (counts : List ℕ) (k : ℕ) where
-  pub once_wrong : (get_or counts (k + 1) 0 ≡ 1 → ⊥) → once counts k ≡ fail 22 (k + 1)
+-- the first signal that is not counted once, or none
+module _ (signals : ℕ) (counts : List ℕ) where
+  passes : (k : ℕ) → get_or counts (suc k) 0 ≡ 1 → once counts k ≡ pass
   unfolding once
-  once_wrong d = rw add-one (test_fails _ 22 (suc k) (ne_eqb (get_or counts (suc k) 0) 1 (rw add-one at d)))
+  passes k e = unless_pass _ 22 (suc k) (eq-eqb (get_or counts (suc k) 0) 1 e)
 
-  pub once_right : get_or counts (k + 1) 0 ≡ 1 → once counts k ≡ pass
-  unfolding once
-  once_right e = unless_pass _ 22 (suc k) (eq-eqb (get_or counts (suc k) 0) 1 (rw add-one at e))
+  pub all_once : ((s : ℕ) → 1 ≤ s → s < signals + 1 → get_or counts s 0 ≡ 1) → counted_once signals counts ≡ pass
+  unfolding counted_once
+  all_once h = below_all signals (once counts) (λ k low. passes k (h (suc k) (omega arith) (omega arith)))
+
+  pub first_not_once : (s : ℕ) → 1 ≤ s → s < signals + 1 → (get_or counts s 0 ≡ 1 → ⊥)
+      → ((k : ℕ) → 1 ≤ k → k < s → get_or counts k 0 ≡ 1) → counted_once signals counts ≡ fail 22 s
+  unfolding counted_once once
+  first_not_once zero low high wrong before = absurd (omega arith)
+  first_not_once (suc k) low high wrong before =
+      below_first signals (once counts)
+      (record {
+        at = k;
+        low = omega arith;
+        fails = test_fails _ 22 (suc k) (ne_eqb (get_or counts (suc k) 0) 1 wrong);
+        before = λ j below. passes j (before (suc j) (omega arith) (omega arith));
+      })
 
 pub counted_placed : (signals : ℕ) (counts l : List ℕ) → signals ≤ 4096
     → ((s : ℕ) → s ≤ 4096 → get_or counts s 0 ≡ placements (module_of l) s)

@@ -11,12 +11,13 @@ ghost use Rattle.model.specs.Refusal.{fail};
 ghost use Rattle.file_lines.specs.Answer.{Answers};
 ghost use Rattle.file_mod_lines.specs.Answer.{mod_refusal, ModAnswers};
 ghost use Rattle.file_mod_table.specs.Line.{Within};
+ghost use Rattle.file_mod_sources.specs.Asked.{Placed};
 ghost use Rattle.file_mod.specs.Known.{Known};
 ghost use Rattle.file_mod.specs.Counting.{counted_once};
 ghost use Rattle.file_mod.specs.Testing.{Computes, each_right, module_check};
 
 use file_mod_lines::{ModRefusal, Place, Shape};
-use file_mod_sources::{operands_right, reception_right, send_right};
+use file_mod_sources::{PlacedLine, reception_right, send_right};
 use file_mod_table::ModTable;
 use netlist::Netlist;
 
@@ -35,13 +36,10 @@ fn find_unplaced(counts: &[u16; 4097], signals: u16) -> Result<(), ModRefusal>
     requires { signals ≤ 4096 }
     ensures { Answers mod_refusal tt (counted_once signals counts.now) result }
 {
-    for k in 0..signals {
-        let signal = k + 1;
-        if counts[usize::from(signal)] != 1 {
-            return Err(ModRefusal::Placement(signal));
-        }
+    match (1..signals + 1).find(|&s| counts[usize::from(s)] != 1) {
+        Some(signal) => Err(ModRefusal::Placement(signal)),
+        None => Ok(()),
     }
-    Ok(())
 }
 
 // 22: "signal not placed exactly once".
@@ -54,15 +52,15 @@ fn check_placements(table: &ModTable, signals: u16) -> Result<(), ModRefusal>
     find_unplaced(&counts, signals)
 }
 
-// A test over all lines: the first that is not right is refused, with its number.
-// By `as`, in this file, where the bound is proved: no `From` has this conversion, and `TryFrom` has an error that cannot happen.
+// A test over all lines: the first that is not right is refused, with its number. They are counted from 0, as their places are divided
+// out of the count.
 fn check_each<F: Fn(Place) -> bool>(table: &ModTable, right: F) -> Result<(), u16>
     requires { (place : Place) → Within table.now.shape place.processor place.slot.0 → F.pre right place }
     ensures { (number : ℕ) (test : ℕ → ℕ → Bool) → Computes (F.post right) table.now.shape test → Answers (fail number) tt (each_right number test table.now.modfile.now) result }
 {
     for k in 0..table.shape.lines() {
         if !right(table.shape.place_of(k)) {
-            return Err((k + 2) as u16);
+            return Err(k + 2);
         }
     }
     Ok(())
@@ -76,7 +74,13 @@ fn check_module(net: &Netlist, table: &ModTable) -> Result<(), ModRefusal>
     check_placements(table, net.signals())?;
     check_each(table, |place| send_right(table, place)).map_err(ModRefusal::Send)?;
     check_each(table, |place| reception_right(table, place)).map_err(ModRefusal::Reception)?;
-    check_each(table, |place| operands_right(net, table, place)).map_err(ModRefusal::WrongOperand)
+    check_each(
+        table,
+        |place|
+            requires { Placed net.now.net.now table.now.modfile.now table.now.shape place.processor place.slot.0 }
+        { PlacedLine { net, table, place }.operands_right() },
+    )
+    .map_err(ModRefusal::WrongOperand)
 }
 
 // MOD's check, NET being accepted: 20 and 21 by line, then 22, 24, 25 and 23.

@@ -1,16 +1,16 @@
--- What line 1 leaves to the stages after it where it passes, and what the last stage leaves to answer where it refuses.
+-- What line 1 leaves to the stages after it where it passes.
 use Prim.Native.Nat.{ℕ}
-use mathlib.Core.Path.{◌≡◌}
+use mathlib.Core.Path.{◌≡◌, refl, ap}
 use mathlib.Core.List.{List}
 use borrow.Author.Tests.{leb-true}
 use Rattle.logic.proofs.Tests.{and_left, and_right}
-use Rattle.std.specs.Prelude.{Result, Err}
-use Rattle.model.specs.Refusal.{Check, pass}
+use Rattle.std.specs.Prelude.{Ok}
+use Rattle.model.specs.Refusal.{pass}
 use Rattle.model.specs.ModuleFile.{mod_processors, mod_slots, mod_header}
 use Rattle.model.proofs.Refusals.{first_right, unless_true}
-use Rattle.file_lines.specs.Answer.{Answers}
-use Rattle.file_lines.proofs.Stages.{refuses, fails}
-use Rattle.file_mod_lines.specs.Answer.{Sized}
+use Rattle.file_lines.proofs.Stages.{passes, same}
+use Rattle.file_mod_lines.specs.Answer.{ModAnswers, Sized}
+use Rattle.file_mod_lines.specs.declared.Shape.{Shape}
 
 pub header_sized : (l : List ℕ) (p c : ℕ) → mod_header l ≡ pass → p ≡ mod_processors l → c ≡ mod_slots l → Sized l p c
 unfolding mod_header
@@ -27,7 +27,8 @@ header_sized l p c h ep ec =
       slots_high = rw ec (leb-true (mod_slots l) 256 (and_right _ _ slots));
     }
 
--- the last stage refuses: so does the whole check, whatever it would accept with
-pub last_stops : {A B E : Type 0} {refusal : E → Check} {x : A} {y : B} {check : Check} {r : Result A E} → Answers refusal x check r
-    → {e : E} → r ≡ Err e → Answers refusal y check (Err e)
-last_stops answers is = record { refuses = fails answers is; accepts = λ p. absurd (refuses answers is p) }
+-- by the shape that line 1 gave
+pub shape_sized : {l : List ℕ} {shape : Shape} → ModAnswers l (mod_header l) (Ok shape) → Sized l shape.processors shape.slots
+shape_sized answers =
+    let is = same answers refl in
+    header_sized _ _ _ (passes answers refl) (ap (λ (s : Shape). s.processors) is) (ap (λ (s : Shape). s.slots) is)

@@ -1,6 +1,6 @@
 -- The lines after the first: line k of them is that of processor k / C and slot k % C, and what its check answers.
 use Prim.Native.Nat.{ℕ, ◌+◌, ◌*◌, ◌/◌, ◌%◌}
-use mathlib.Core.Path.{◌≡◌, refl, sym, ap, ◌∙◌}
+use mathlib.Core.Path.{◌≡◌, refl, ap, ◌∙◌}
 use mathlib.Core.Bool.{Bool, true, false}
 use mathlib.Core.List.{List}
 use native.Mathlib.Omega.{arith}
@@ -51,18 +51,16 @@ module _ (l : List ℕ) (k : ℕ) (n : Network) where
   unfolding mod_slot
   misformed e = test_stops _ 20 _ _ (here ∙ e) ∙ line 20
 
-  module _ (form : is_line_at l (85 * (k + 1)) 14 ≡ true) (p c : ℕ) (sized : Sized l p c) (laid : Bool)
-      (is : laid ≡ line_at l (85 * (k + 1)) (k / c) (k % c) n.size p c) where
-    judged : line_layout n l (k / mod_slots l) (k % mod_slots l) ≡ laid
+  module _ (form : is_line_at l (85 * (k + 1)) 14 ≡ true) {p c : ℕ} (sized : Sized l p c) where
+    judged : line_layout n l (k / mod_slots l) (k % mod_slots l) ≡ line_at l (85 * (k + 1)) (k / c) (k % c) n.size p c
     judged =
-        line_judged n l (k / mod_slots l) (k % mod_slots l)
-        ∙ (rw (line_index l k, ← sized.processors, ← sized.slots) (sym is))
+        line_judged n l (k / mod_slots l) (k % mod_slots l) ∙ (rw (line_index l k, ← sized.processors, ← sized.slots) refl)
 
-    pub layout_wrong : laid ≡ false → line_check n l k ≡ fail 21 (k + 2)
+    pub layout_wrong : line_at l (85 * (k + 1)) (k / c) (k % c) n.size p c ≡ false → line_check n l k ≡ fail 21 (k + 2)
     unfolding mod_slot
     layout_wrong e = test_goes_on _ 20 _ _ (here ∙ form) ∙ test_fails _ 21 _ (judged ∙ e) ∙ line 21
 
-    pub slot_passes : laid ≡ true → line_check n l k ≡ pass
+    pub slot_passes : line_at l (85 * (k + 1)) (k / c) (k % c) n.size p c ≡ true → line_check n l k ≡ pass
     unfolding mod_slot
     slot_passes e = test_goes_on _ 20 _ _ (here ∙ form) ∙ unless_pass _ 21 _ (judged ∙ e)
 

@@ -2,17 +2,17 @@
 
 #![tactic(auto)]
 
-ghost use Rattle.std.specs.Prelude.{◌≡◌, true, ◌+◌, ◌*◌, ◌/◌, ◌%◌, ◌<◌, ◌≤◌, ltb};
+ghost use Rattle.std.specs.Prelude.{◌≡◌, ◌+◌, ◌*◌, ◌/◌, ◌%◌, ◌<◌, ◌≤◌, ltb};
 ghost use Rattle.logic.specs.Test.{◌and◌};
-ghost use Rattle.fields.specs.Line.{is_line_at};
 ghost use Rattle.model.specs.Network.{Network};
 ghost use Rattle.model.specs.ModuleFile.{mod_header, mod_slot, each_line, mod_surplus};
 ghost use Rattle.file_lines.specs.Answer.{Answers};
 ghost use Rattle.file_mod_lines.specs.Answer.{mod_refusal, ModAnswers, Sized};
 ghost use Rattle.file_mod_lines.specs.Form.{form_check};
-ghost use Rattle.file_mod_lines.specs.Layout.{number_in, header_at, pair_at, operands_at, line_at};
+ghost use Rattle.file_mod_lines.specs.Layout.{header_at, pair_at, operands_at, line_at};
 
 use clock::Slot;
+use fields::Line;
 use file_lines::Refusal;
 
 // The part of a pair that names no location, as the file writes it: compared once, so no enum is made of the parts.
@@ -62,11 +62,11 @@ pub struct Place {
 
 impl Shape {
     // P × C.
-    pub fn lines(self) -> usize
+    pub fn lines(self) -> u16
         requires { (self.processors ≤ 16) × (self.slots ≤ 256) }
         ensures { (result ≡ self.processors * self.slots) × (result ≤ 4096) }
     {
-        usize::from(self.processors) * usize::from(self.slots)
+        self.processors * self.slots
     }
 
     // The module has the processor and the slot.
@@ -78,20 +78,35 @@ impl Shape {
     }
 
     // "by processor (0 to P-1), within it by slot (0 to C-1)": the place of the line k after the first.
-    // By `as`, in this file, where the bound is proved: no `From` has this conversion, and `TryFrom` has an error that cannot happen.
-    pub fn place_of(self, k: usize) -> Place
-        requires { (k < 4096) × (1 ≤ self.slots) }
+    pub fn place_of(self, k: u16) -> Place
+        requires { 1 ≤ self.slots }
         ensures { (result.processor ≡ k / self.slots) × (result.slot.0 ≡ k % self.slots) }
     {
-        let slots = usize::from(self.slots);
         Place {
-            processor: (k / slots) as u16,
-            slot: Slot((k % slots) as u16),
+            processor: k / self.slots,
+            slot: Slot(k % self.slots),
         }
     }
 }
 
 impl Place {
+    // The place of a location that its line names, which is its own processor's.
+    pub fn at(self, location: u8) -> Place
+        ensures { (result.processor ≡ self.processor) × (result.slot.0 ≡ location) }
+    {
+        Place {
+            slot: Slot(u16::from(location)),
+            ..self
+        }
+    }
+
+    // The place of the same slot in a processor.
+    pub fn of_processor(self, processor: u16) -> Place
+        ensures { (result.processor ≡ processor) × (result.slot.0 ≡ self.slot.0) }
+    {
+        Place { processor, ..self }
+    }
+
     // Where its line stands in MOD.
     pub fn line_in(self, shape: Shape) -> usize
         requires { (self.processor < 16) × (self.slot.0 < 256) × (shape.slots ≤ 256) }
@@ -102,66 +117,48 @@ impl Place {
     }
 }
 
-// A line that is right by itself: at an offset of MOD.
-#[derive(Clone, Copy)]
-pub struct Line<'a> {
-    pub modfile: &'a [u8],
-    pub at: usize,
-    pub ghost right: { is_line_at modfile.now at 14 ≡ true },
+// A pair from a column on: a part up to `most` and a location below C, or "Part 9 with location 0".
+fn is_pair_laid(line: &Line<14>, column: usize, most: u16, slots: u16) -> bool
+    requires { column < 13 }
+    ensures { result ≡ pair_at line.now.bytes.now line.now.at column most slots }
+{
+    let part = line.number(column);
+    let location = line.number(column + 1);
+    location < slots
+        && if part == NO_PART {
+            location == 0
+        } else {
+            part <= most
+        }
 }
 
-impl<'a> Line<'a> {
-    // The number in a column.
-    pub fn number(&self, column: usize) -> u16
-        requires { column < 14 }
-        ensures { result ≡ number_in self.now.modfile.now self.now.at column }
-    {
-        fields::number_at(self.modfile, self.at + 6 * column)
-    }
+// The four operands: "part 0 to 3 or 9".
+fn are_operands_laid(line: &Line<14>, slots: u16) -> bool
+    ensures { result ≡ operands_at line.now.bytes.now line.now.at slots }
+{
+    (0..4).all(|j| is_pair_laid(line, 3 + 2 * j, 3, slots))
+}
 
-    // A pair from a column on: a part up to `most` and a location below C, or "Part 9 with location 0".
-    fn pair_laid(&self, column: usize, most: u16, slots: u16) -> bool
-        requires { column < 13 }
-        ensures { result ≡ pair_at self.now.modfile.now self.now.at column most slots }
-    {
-        let part = self.number(column);
-        let location = self.number(column + 1);
-        location < slots
-            && if part == NO_PART {
-                location == 0
-            } else {
-                part <= most
-            }
-    }
+// The layout is that of a place, N, P and C being given.
+#[tactic(auto, using(logic::proofs::Judged::connected), unfolding(crate::specs::Layout::line_at))]
+fn is_slot_laid(line: &Line<14>, place: Place, signals: u16, shape: Shape) -> bool
+    ensures { result ≡ line_at line.now.bytes.now line.now.at place.processor place.slot.0 signals shape.processors shape.slots }
+{
+    line.number(0) == place.processor
+        && line.number(1) == place.slot.0
+        && line.number(2) <= signals
+        && are_operands_laid(line, shape.slots)
+        && is_pair_laid(line, 11, 1, shape.slots)
+        && instruction::sender_right(line.number(13), shape.processors)
+}
 
-    // The four operands: "part 0 to 3 or 9".
-    fn operands_laid(&self, slots: u16) -> bool
-        ensures { result ≡ operands_at self.now.modfile.now self.now.at slots }
-    {
-        (0..4).all(|j| self.pair_laid(3 + 2 * j, 3, slots))
-    }
-
-    // The layout is that of a place, N, P and C being given.
-    #[tactic(auto, using(logic::proofs::Judged::connected), unfolding(crate::specs::Layout::line_at))]
-    fn is_laid(&self, place: Place, signals: u16, shape: Shape) -> bool
-        ensures { result ≡ line_at self.now.modfile.now self.now.at place.processor place.slot.0 signals shape.processors shape.slots }
-    {
-        self.number(0) == place.processor
-            && self.number(1) == place.slot.0
-            && self.number(2) <= signals
-            && self.operands_laid(shape.slots)
-            && self.pair_laid(11, 1, shape.slots)
-            && instruction::sender_right(self.number(13), shape.processors)
-    }
-
-    // The layout is that of line 1: "P (1 to 16), C (1 to 256), twelve zeros".
-    fn is_header(&self) -> bool
-        ensures { result ≡ header_at self.now.modfile.now self.now.at }
-    {
-        (1..=16).contains(&self.number(0))
-            && (1..=256).contains(&self.number(1))
-            && (0..12).all(|k| self.number(2 + k) == 0)
-    }
+// The layout is that of line 1: "P (1 to 16), C (1 to 256), twelve zeros".
+fn is_header_laid(line: &Line<14>) -> bool
+    ensures { result ≡ header_at line.now.bytes.now line.now.at }
+{
+    (1..=16).contains(&line.number(0))
+        && (1..=256).contains(&line.number(1))
+        && line.has_zeros(2, 12)
 }
 
 // Line 1: 20, then 21. This, the lines and the surplus are judged in NET as here, but by other numbers of fields, other tests and other
@@ -169,11 +166,9 @@ impl<'a> Line<'a> {
 fn check_header(modfile: &[u8]) -> Result<Shape, ModRefusal>
     ensures { ModAnswers modfile.now (mod_header modfile.now) result }
 {
-    let Some(_) = fields::read_line(modfile, 0, 14) else {
-        return Err(ModRefusal::Misformed(1));
-    };
-    let line = Line { modfile, at: 0 };
-    if !line.is_header() {
+    fields::read_line(modfile, 0, 14).ok_or(ModRefusal::Misformed(1))?;
+    let line = Line::new(modfile, 0);
+    if !is_header_laid(&line) {
         return Err(ModRefusal::Layout(1));
     }
     Ok(Shape {
@@ -182,27 +177,28 @@ fn check_header(modfile: &[u8]) -> Result<Shape, ModRefusal>
     })
 }
 
-// The lines after the first, in their order: 20, then 21, and left at the first fault with its line.
+// The lines after the first, in their order: 20, then 21, and left at the first fault with its line. They are counted from 0, as their
+// places are divided out of the count.
 fn check_lines(modfile: &[u8], signals: u16, shape: Shape) -> Result<(), ModRefusal>
     requires { Sized modfile.now shape.processors shape.slots }
     ensures { (n : Network) → n.size ≡ signals → Answers mod_refusal tt (each_line modfile.now (mod_slot n modfile.now)) result }
 {
     let mut answer = Ok(());
     'lines: for k in 0..shape.lines() {
-        let at = 85 * (k + 1);
+        let at = 85 * (usize::from(k) + 1);
         for column in 0..14 {
             let Some(_) = fields::read_field(modfile, at + 6 * column) else {
-                answer = Err(ModRefusal::Misformed((k + 2) as u16));
+                answer = Err(ModRefusal::Misformed(k + 2));
                 break 'lines;
             };
         }
         if !fields::ends_line(modfile, at + 84) {
-            answer = Err(ModRefusal::Misformed((k + 2) as u16));
+            answer = Err(ModRefusal::Misformed(k + 2));
             break 'lines;
         }
-        let line = Line { modfile, at };
-        if !line.is_laid(shape.place_of(k), signals, shape) {
-            answer = Err(ModRefusal::Layout((k + 2) as u16));
+        let line = Line::new(modfile, at);
+        if !is_slot_laid(&line, shape.place_of(k), signals, shape) {
+            answer = Err(ModRefusal::Layout(k + 2));
             break 'lines;
         }
     }
@@ -215,8 +211,8 @@ fn check_surplus(modfile: &[u8], shape: Shape) -> Result<(), ModRefusal>
     ensures { Answers mod_refusal tt (mod_surplus modfile.now) result }
 {
     let lines = shape.lines();
-    if 85 * (lines + 1) < modfile.len() {
-        return Err(ModRefusal::Misformed((lines + 2) as u16));
+    if 85 * (usize::from(lines) + 1) < modfile.len() {
+        return Err(ModRefusal::Misformed(lines + 2));
     }
     Ok(())
 }

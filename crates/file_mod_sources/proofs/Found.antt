@@ -9,8 +9,8 @@ use Rattle.instruction.specs.Operand.{part_of, location_of}
 use Rattle.instruction.specs.declared.Operand.{Operand}
 use Rattle.file_mod_lines.specs.declared.Place.{Place}
 use Rattle.netlist.specs.Kind.{code_of}
-use Rattle.file_mod_sources.specs.declared.Gate.{Gate}
-use Rattle.file_mod_sources.specs.Mirror.{FoundGate}
+use Rattle.file_mod_sources.specs.declared.gate.Gate.{Gate}
+use Rattle.file_mod_sources.specs.Found.{FoundGate}
 use Rattle.file_mod_sources.proofs.Operands.{Names}
 
 -- operand j of the line is a, where no gate is found, and where one is

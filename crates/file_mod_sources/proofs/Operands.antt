@@ -37,7 +37,7 @@ module _ {l : List ℕ} {shape : Shape} {p i j : ℕ} (laid : LinesLaid l shape.
   pub operand_names : Names (module_of l) p i j a
   operand_names =
       let known = ((slot_laid l shape.slots p i line).operand j low).part_known in
-      record { part = sym (ap part_of is ∙ part_of_pair _ _ known); location = sym (ap location_of is ∙ location_of_pair _ _ known) }
+      record { part = sym (ap part_of is ∙ part_of_pair _ _ known); location = sym (ap location_of is ∙ location_of_pair _ _) }
 
   pub operand_within : Within shape p (location_of a)
   operand_within = record { processor = within.processor; slot = omega (arith, operand_low l shape.slots p i line j low, operand_names.location) }

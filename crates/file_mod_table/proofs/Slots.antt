@@ -1,11 +1,11 @@
 -- What a right line has: its fields are right where they are read, its numbers are the module's, and they are in their ranges.
 use Prim.Native.Nat.{ℕ, ◌+◌, ◌*◌, ◌<◌, ◌≤◌}
-use mathlib.Core.Path.{◌≡◌, refl, sym, ap, subst, ◌∙◌}
+use mathlib.Core.Path.{◌≡◌, sym, ap, subst, ◌∙◌}
 use mathlib.Core.Bool.{true}
 use mathlib.Core.List.{List}
 use mathlib.Core.Logic.{⊎_elim}
 use native.Mathlib.Omega.{arith}
-use borrow.Author.Tests.{eq-eqb, ne_eqb, ltb-true}
+use borrow.Author.Tests.{ltb-true}
 use lib.Dec.{ltb}
 use Rattle.logic.specs.Test.{◌and◌}
 use Rattle.logic.proofs.Tests.{and_left, and_right}
@@ -15,8 +15,6 @@ use Rattle.fields.specs.Line.{is_line_at}
 use Rattle.model.specs.Module.{no_sender}
 use Rattle.model.specs.ModuleFile.{mod_line, mod_field, mod_processors, mod_index, module_of, mod_slot}
 use Rattle.model.proofs.Accepted.{SlotRight, slot_right, at_pass}
-use Rattle.std.specs.Prelude.{Some, None}
-use Rattle.instruction.specs.Sender.{sender_numbered}
 use Rattle.file_mod_lines.specs.declared.Shape.{Shape}
 use Rattle.file_mod_table.specs.Line.{widest, LinesLaid, Within, LineOf}
 
@@ -92,11 +90,3 @@ module _ (l : List ℕ) (c q i : ℕ) (line : LineOf l c q i) where
   sender_small =
       ⊎_elim (λ (h : mod_field l (mod_index l q i) 13 < mod_processors l). omega (arith, line.laid.sized.processors_high))
       (λ (e : mod_field l (mod_index l q i) 13 ≡ 99). omega arith) slot_laid.sender
-
--- the number x of the processor received from
-module _ (x sender : ℕ) (is : x ≡ sender) where
-  pub sender_none : x ≡ 99 → None ≡ sender_numbered sender
-  sender_none e = sym (rw (eq-eqb sender no_sender (sym is ∙ e)) refl)
-
-  pub sender_some : (x ≡ 99 → ⊥) → Some x ≡ sender_numbered sender
-  sender_some d = rw is (sym (rw (ne_eqb sender no_sender (λ (e : sender ≡ 99). d (is ∙ e))) refl))

@@ -3,16 +3,16 @@
 #![tactic(auto)]
 
 ghost use Rattle.std.specs.Prelude.{◌≡◌, ◌+◌, ◌*◌, ◌<◌, ◌≤◌, IfSome};
+ghost use Rattle.logic.specs.Numbered.{numbered};
 ghost use Rattle.model.specs.ModuleFile.{mod_index, mod_field, module_of};
-ghost use Rattle.instruction.specs.Instruction.{operand_named};
+ghost use Rattle.instruction.specs.Operand.{location_of};
+ghost use Rattle.instruction.specs.Instruction.{operand_named, send_named};
 ghost use Rattle.file_mod_table.specs.Line.{LinesLaid, Within};
 ghost use Rattle.file_mod_table.specs.Sender.{sender_of};
 
-use file_mod_lines::{Line, Place, Shape};
+use fields::Line;
+use file_mod_lines::{Place, Shape};
 use instruction::Operand;
-
-// The number of no processor, as the file writes it: readers get an Option.
-const NO_SENDER: u16 = 99;
 
 // MOD, P and C, where every line is right by itself.
 #[derive(Clone, Copy)]
@@ -36,63 +36,53 @@ impl<'a> ModTable<'a> {
         requires column_bound { column < 14 }
         ensures { result ≡ mod_field self.now.modfile.now (mod_index self.now.modfile.now place.processor place.slot.0) column }
     {
-        let line = Line {
-            modfile: self.modfile,
-            at: place.line_in(self.shape),
-        };
-        line.number(column)
+        let at = place.line_in(self.shape);
+        Line::<14>::new(self.modfile, at).number(column)
     }
 
-    // The signal placed there, 0 in an empty slot.
+    // The signal placed there, or none: an empty slot.
     #[tactic(auto, unfolding(model::specs::ModuleFile::module_of))]
-    pub fn signal_at(&self, place: Place) -> u16
+    pub fn signal_at(&self, place: Place) -> Option<u16>
         requires { Within self.now.shape place.processor place.slot.0 }
-        ensures { result ≡ (module_of self.now.modfile.now).signal place.processor place.slot.0 }
+        ensures { result ≡ numbered ((module_of self.now.modfile.now).signal place.processor place.slot.0) }
     {
-        self.column_at(place, 2)
+        match self.column_at(place, 2) {
+            0 => None,
+            signal => Some(signal),
+        }
     }
 
-    // The signal of line k after the first, for use as an index. It stands at a known offset, so that no place is divided out of k.
-    pub fn signal_of(&self, k: usize) -> usize
+    // The signal of line k after the first, for use as an index: a number, since the arrays that it indexes have a place for 0, the empty
+    // slots. It stands at a known offset, so that no place is divided out of k.
+    pub fn signal_of(&self, k: u16) -> usize
         requires { k < self.now.shape.processors * self.now.shape.slots }
         ensures { (result ≡ mod_field self.now.modfile.now (k + 1) 2) × (result ≤ 4096) }
     {
-        let line = Line {
-            modfile: self.modfile,
-            at: 85 * (k + 1),
-        };
-        usize::from(line.number(2))
+        let at = 85 * (usize::from(k) + 1);
+        usize::from(Line::<14>::new(self.modfile, at).number(2))
     }
 
-    // The pair that is sent: its part, 9 where nothing is sent.
+    // What the line sends. The location is that of a slot.
+    // By `as`, in this file, where the bound is proved: no `From` has this conversion, and `TryFrom` has an error that cannot happen.
     #[tactic(auto, unfolding(model::specs::ModuleFile::module_of))]
-    pub fn send_part_at(&self, place: Place) -> u16
+    pub fn send_at(&self, place: Place) -> Operand
         requires { Within self.now.shape place.processor place.slot.0 }
-        ensures { result ≡ (module_of self.now.modfile.now).send_part place.processor place.slot.0 }
+        ensures value { result ≡ send_named (module_of self.now.modfile.now) place.processor place.slot.0 }
+        ensures within { location_of result < self.now.shape.slots }
     {
-        self.column_at(place, 11)
-    }
-
-    // Its location, which is that of a slot.
-    pub fn send_location_at(&self, place: Place) -> u16
-        requires { Within self.now.shape place.processor place.slot.0 }
-        ensures { (result ≡ (module_of self.now.modfile.now).send_location place.processor place.slot.0) × (result < self.now.shape.slots) }
-    {
-        self.column_at(place, 12)
+        instruction::operand_of(self.column_at(place, 11), self.column_at(place, 12) as u8)
     }
 
     // The processor received from, which is one of the module's, or none.
+    // By `as`, in this file, where the bound is proved: no `From` has this conversion, and `TryFrom` has an error that cannot happen.
+    #[tactic(auto, unfolding(model::specs::ModuleFile::module_of))]
     pub fn sender_at(&self, place: Place) -> Option<u16>
         requires { Within self.now.shape place.processor place.slot.0 }
         ensures value { result ≡ sender_of (module_of self.now.modfile.now) place.processor place.slot.0 }
         ensures within { IfSome result (λ q. q < self.now.shape.processors) }
     {
-        let sender = self.column_at(place, 13);
-        if sender == NO_SENDER {
-            None
-        } else {
-            Some(sender)
-        }
+        let processor = instruction::sender_numbered(self.column_at(place, 13) as u8)?;
+        Some(u16::from(processor))
     }
 
     // What operand j of the line names.

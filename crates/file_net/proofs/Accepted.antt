@@ -12,9 +12,10 @@ use Rattle.model.specs.Refusal.{pass}
 use Rattle.model.specs.Netlist.{net_size, net_header, net_signal}
 use Rattle.model.proofs.Refusals.{below_pass, first_left, first_right, unless_true}
 use Rattle.model.proofs.Accepted.{signal_right}
+use Rattle.file_lines.specs.Answer.{Answers}
 use Rattle.file_lines.proofs.Stages.{passes, same}
 use Rattle.file_net_graph.specs.Lines.{Lines}
-use Rattle.file_net.specs.Answer.{NetAnswers}
+use Rattle.file_net.specs.Answer.{net_refusal, NetAnswers}
 use Rattle.file_net.specs.Stages.{net_lines}
 
 module _ (limit : ℕ) (net : List ℕ) (header : net_header limit net ≡ pass) where
@@ -47,7 +48,7 @@ module _ (limit : ℕ) (net : List ℕ) {size : ℕ} (header : NetAnswers net (n
   pub size_read : (size ≡ net_size net) × (size ≤ 4096)
   size_read = (same header refl, rw (same header refl) (size_small limit net (passes header refl) most))
 
-  pub lines_read : {read : ℕ} → NetAnswers net (net_lines net) (Ok read) → Lines net size
+  pub lines_read : {u : Unit {0}} → Answers net_refusal (tt {0}) (net_lines net) (Ok u) → Lines net size
   lines_read lines =
       rw (same header refl)
       (lines_right limit net (passes header refl) (passes lines refl) (size_small limit net (passes header refl) most))

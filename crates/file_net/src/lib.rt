@@ -4,13 +4,14 @@
 
 ghost use Rattle.std.specs.Prelude.{◌≡◌, ◌≤◌};
 ghost use Rattle.model.specs.Netlist.{net_size, net_header, net_surplus, net_chains, net_check};
-ghost use Rattle.file_net_graph.specs.Lines.{Lines};
-ghost use Rattle.file_net.specs.Answer.{NetAnswers};
+ghost use Rattle.file_lines.specs.Answer.{Answers};
+ghost use Rattle.file_net.specs.Answer.{net_refusal, NetAnswers};
 ghost use Rattle.file_net.specs.Stages.{header_laid, net_lines};
 
 use fields::{ends_line, read_field, read_line};
 use file_lines::Refusal;
 use file_net_chains::first_chain;
+use file_net_graph::CheckedLines;
 use file_net_line::NetLine;
 
 // Why NET is refused: a line misformed, missing or surplus, one against the layout, one with a wrong source, or a signal
@@ -41,7 +42,7 @@ impl Refusal for NetRefusal {
 // "0, N (1 to 4096), ten zeros", N being at most the limit.
 fn is_header_laid(header: &NetLine, limit: u16) -> bool
     requires { header.now.line ≡ 0 }
-    ensures { result ≡ header_laid limit header.now.net.now }
+    ensures { result ≡ header_laid limit header.now.fields.bytes.now }
 {
     header.field(0) == 0 && (1..=limit).contains(&header.field(1)) && header.has_ten_zeros()
 }
@@ -50,9 +51,7 @@ fn is_header_laid(header: &NetLine, limit: u16) -> bool
 fn check_header(net: &[u8], limit: u16) -> Result<u16, NetRefusal>
     ensures { NetAnswers net.now (net_header limit net.now) result }
 {
-    let Some(_) = read_line(net, 0, 12) else {
-        return Err(NetRefusal::Misformed(1));
-    };
+    read_line(net, 0, 12).ok_or(NetRefusal::Misformed(1))?;
     let header = NetLine::new(net, 0);
     if !is_header_laid(&header, limit) {
         return Err(NetRefusal::Layout(1));
@@ -61,33 +60,33 @@ fn check_header(net: &[u8], limit: u16) -> Result<u16, NetRefusal>
 }
 
 // The lines of the signals 1 to N, in order: 10 before 11 before 12 in each, and left at the first fault with its line. A labelled loop that
-// is left with its answer is the form that document 01 names, here and for MOD and STIM.
-// By `as`, in this file, where the bound is proved: no `From` has this conversion, and `TryFrom` has an error that cannot happen.
-fn check_lines(net: &[u8], size: u16) -> Result<u16, NetRefusal>
+// is left with its answer is the form that document 01 names, here and for MOD and STIM. N is read once and handed down, here and to each
+// line: that it is N is asked of whoever hands it.
+fn check_lines(net: &[u8], size: u16) -> Result<(), NetRefusal>
     requires { (size ≡ net_size net.now) × (size ≤ 4096) }
-    ensures { NetAnswers net.now (net_lines net.now) result }
+    ensures { Answers net_refusal tt (net_lines net.now) result }
 {
-    let mut answer = Ok(size);
-    'lines: for k in 0..usize::from(size) {
-        let signal = k + 1;
-        let at = 73 * signal;
+    let mut answer = Ok(());
+    'lines: for signal in 1..=size {
+        let index = usize::from(signal);
+        let at = 73 * index;
         for column in 0..12 {
             let Some(_) = read_field(net, at + 6 * column) else {
-                answer = Err(NetRefusal::Misformed((k + 2) as u16));
+                answer = Err(NetRefusal::Misformed(signal + 1));
                 break 'lines;
             };
         }
         if !ends_line(net, at + 72) {
-            answer = Err(NetRefusal::Misformed((k + 2) as u16));
+            answer = Err(NetRefusal::Misformed(signal + 1));
             break 'lines;
         }
-        let line = NetLine::new(net, signal);
+        let line = NetLine::new(net, index);
         if !line.is_signal_laid() {
-            answer = Err(NetRefusal::Layout((k + 2) as u16));
+            answer = Err(NetRefusal::Layout(signal + 1));
             break 'lines;
         }
         if !line.are_sources_right(size) {
-            answer = Err(NetRefusal::Sources((k + 2) as u16));
+            answer = Err(NetRefusal::Sources(signal + 1));
             break 'lines;
         }
     }
@@ -95,24 +94,23 @@ fn check_lines(net: &[u8], size: u16) -> Result<u16, NetRefusal>
 }
 
 // A line after the last: 10.
-fn check_surplus(net: &[u8], size: u16) -> Result<u16, NetRefusal>
+fn check_surplus(net: &[u8], size: u16) -> Result<(), NetRefusal>
     requires { (size ≡ net_size net.now) × (size ≤ 4096) }
-    ensures { NetAnswers net.now (net_surplus net.now) result }
+    ensures { Answers net_refusal tt (net_surplus net.now) result }
 {
     if 73 * (usize::from(size) + 1) < net.len() {
         return Err(NetRefusal::Misformed(size + 2));
     }
-    Ok(size)
+    Ok(())
 }
 
 // 13: the smallest signal on a closed chain of rank-order gates.
-fn check_chains(net: &[u8], size: u16) -> Result<u16, NetRefusal>
-    requires { Lines net.now size }
-    ensures { NetAnswers net.now (net_chains net.now) result }
+fn check_chains(lines: &CheckedLines) -> Result<(), NetRefusal>
+    ensures { Answers net_refusal tt (net_chains lines.now.net.now) result }
 {
-    match first_chain(net, size) {
+    match first_chain(lines) {
         Some(signal) => Err(NetRefusal::Chain(signal)),
-        None => Ok(size),
+        None => Ok(()),
     }
 }
 
@@ -124,6 +122,6 @@ pub fn check_net(net: &[u8], limit: u16) -> Result<u16, NetRefusal>
     let size = check_header(net, limit)?;
     check_lines(net, size)?;
     check_surplus(net, size)?;
-    check_chains(net, size)?;
+    check_chains(&CheckedLines::new(net, size))?;
     Ok(size)
 }

@@ -5,17 +5,12 @@ use mathlib.Core.List.{List}
 use Rattle.std.specs.Prelude.{Option, Some, None}
 use Rattle.graph_ranks.specs.Graph.{SmallestLoop, NoLoops, FirstLoop}
 use Rattle.model.specs.Refusal.{pass, fail}
-use Rattle.model.specs.Network.{Network, Signal, Chain, one, more}
 use Rattle.model.specs.Netlist.{network, net_chains}
-use Rattle.model.proofs.Chains.{chains_acyclic, chains_smallest}
+use Rattle.model.proofs.Chains.{chain_signal, chains_acyclic, chains_smallest}
 use Rattle.file_net_graph.specs.Lines.{Lines}
 use Rattle.file_net_graph.specs.Graph.{edges_of}
 use Rattle.file_net_graph.proofs.Closed.{path_chain, chain_path}
 use Rattle.file_net_chains.specs.Chain.{chain_check}
-
-chain_end : {n : Network} {a b : ℕ} → Chain n a b → Signal n b
-chain_end (one f) = f.to
-chain_end (more c f) = f.to
 
 module _ (net : List ℕ) (size : ℕ) (right : Lines net size) where
   found : (r : ℕ) → SmallestLoop (edges_of net size) size r → fail 13 r ≡ net_chains net
@@ -23,13 +18,13 @@ module _ (net : List ℕ) (size : ℕ) (right : Lines net size) where
       sym (chains_smallest net r
       (record {
         closed = path_chain net size right least.loops;
-        no_smaller = λ s l c. least.smallest s (chain_end c).low l (chain_path net size right c);
+        no_smaller = λ s l c. least.smallest s (chain_signal c).low l (chain_path net size right c);
       }))
 
   none : NoLoops (edges_of net size) size → pass ≡ net_chains net
   unfolding network
   none loopless =
-      sym (chains_acyclic net (λ s c. loopless s (chain_end c).low (top s (chain_end c).high) (chain_path net size right c)))
+      sym (chains_acyclic net (λ s c. loopless s (chain_signal c).low (top s (chain_signal c).high) (chain_path net size right c)))
     where
       top : (s : ℕ) → s ≤ (network net).size → s ≤ size
       top s h = rw right.is h

@@ -1,59 +1,61 @@
 -- The graph that the code loads has an edge exactly where a rank-order gate feeds another, so that its loops are the closed chains.
 use Prim.Native.Nat.{ℕ, zero, suc, ◌+◌, ◌*◌, ◌/◌, ◌%◌, ◌<◌, ◌≤◌}
 use mathlib.Core.Path.{◌≡◌, refl, sym, ◌∙◌, ap, subst}
-use mathlib.Core.Bool.{Bool, true, false}
+use mathlib.Core.Bool.{Bool, true, false, true≢false}
 use mathlib.Core.List.{List}
 use native.Mathlib.Omega.{arith}
 use native.Mathlib.Decide.{ℕ_discrete, dec_le}
 use lib.Dec.{eqb}
 use lib.ListN.{length, get_or, set, replicate, length-set, length-replicate}
 use lib.Seq.{get_or-set_same, get_or-set_other}
-use borrow.Author.Tests.{eq-eqb, eqb-true, eqb-false}
-use Rattle.logic.specs.Test.{one}
+use borrow.Author.Tests.{eq-eqb, eqb-true}
 use Rattle.std.specs.Prelude.{if◌then◌else◌}
 use Rattle.graph_ranks.specs.Graph.{Edge, Path, Followed, IsGraph}
-use Rattle.graph_ranks.proofs.Stores.{all_zero}
+use Rattle.graph_ranks.proofs.Stores.{all_same}
 use Rattle.model.specs.Network.{Signal, rank_order, Feeds, Chain}
 use Rattle.model.specs.Netlist.{net_field, network}
 use Rattle.file_net_graph.specs.Lines.{Lines}
 use Rattle.file_net_graph.specs.Graph.{follow_to, feeder_of, edges_to, follow_of, edges_of}
 
-abbrev zeros : ℕ → List ℕ
-zeros n = replicate n 0
+abbrev none_marked : List Bool
+none_marked = replicate 4097 false
+
+abbrev none_entered : List ℕ
+none_entered = replicate 16388 0
 
 -- a list of stores at rising places: what stands where it was stored, and elsewhere
-length_follow : (net l : List ℕ) (k : ℕ) → length (follow_to net l k) ≡ length l
+length_follow : (net : List ℕ) (l : List Bool) (k : ℕ) → length (follow_to net l k) ≡ length l
 unfolding follow_to
 length_follow net l zero = refl
 length_follow net l (suc k) = length-set (follow_to net l k) (k + 1) _ ∙ length_follow net l k
 
-length_edges : (net follow l : List ℕ) (k : ℕ) → length (edges_to net follow l k) ≡ length l
+length_edges : (net : List ℕ) (follow : List Bool) (l : List ℕ) (k : ℕ) → length (edges_to net follow l k) ≡ length l
 unfolding edges_to
 length_edges net follow l zero = refl
 length_edges net follow l (suc k) = length-set (edges_to net follow l k) (k + 4) _ ∙ length_edges net follow l k
 
-follow_below : (net l : List ℕ) (k s : ℕ) → 1 ≤ s → s ≤ k → k < length l → get_or (follow_to net l k) s 0 ≡ one (eqb (net_field net s 0) rank_order)
+follow_below : (net : List ℕ) (l : List Bool) (k s : ℕ) → 1 ≤ s → s ≤ k → k < length l → get_or (follow_to net l k) s false ≡ eqb (net_field net s 0) rank_order
 unfolding follow_to
 follow_below net l zero s a b h = absurd (omega arith)
 follow_below net l (suc k) s a b h = go (ℕ_discrete s (k + 1)) (follow_below net l k s a)
   where
-    v : ℕ
-    v = one (eqb (net_field net (k + 1) 0) rank_order)
+    v : Bool
+    v = eqb (net_field net (k + 1) 0) rank_order
 
-    go : Dec (s ≡ k + 1) → (s ≤ k → k < length l → get_or (follow_to net l k) s 0 ≡ one (eqb (net_field net s 0) rank_order))
-        → get_or (set (follow_to net l k) (k + 1) v) s 0 ≡ one (eqb (net_field net s 0) rank_order)
+    go : Dec (s ≡ k + 1) → (s ≤ k → k < length l → get_or (follow_to net l k) s false ≡ eqb (net_field net s 0) rank_order)
+        → get_or (set (follow_to net l k) (k + 1) v) s false ≡ eqb (net_field net s 0) rank_order
     go (yes e) below =
-        rw e (get_or-set_same (follow_to net l k) (k + 1) v 0 (omega (arith, length_follow net l k)))
-    go (no d) below = get_or-set_other (follow_to net l k) (k + 1) s v 0 d ∙ below (omega arith) (omega arith)
+        rw e (get_or-set_same (follow_to net l k) (k + 1) v false (omega (arith, length_follow net l k)))
+    go (no d) below = get_or-set_other (follow_to net l k) (k + 1) s v false d ∙ below (omega arith) (omega arith)
 
-follow_beyond : (net l : List ℕ) (k s : ℕ) → (1 ≤ s → k < s) → get_or (follow_to net l k) s 0 ≡ get_or l s 0
+follow_beyond : (net : List ℕ) (l : List Bool) (k s : ℕ) → (1 ≤ s → k < s) → get_or (follow_to net l k) s false ≡ get_or l s false
 unfolding follow_to
 follow_beyond net l zero s h = refl
 follow_beyond net l (suc k) s h =
-    get_or-set_other (follow_to net l k) (k + 1) s _ 0 (λ (e : s ≡ k + 1). omega (arith, h (omega arith)))
+    get_or-set_other (follow_to net l k) (k + 1) s _ false (λ (e : s ≡ k + 1). omega (arith, h (omega arith)))
     ∙ follow_beyond net l k s (λ a. omega (arith, h a))
 
-edges_below : (net follow l : List ℕ) (k i : ℕ) → 4 ≤ i → i < k + 4 → k + 3 < length l → get_or (edges_to net follow l k) i 0 ≡ feeder_of net follow i
+edges_below : (net : List ℕ) (follow : List Bool) (l : List ℕ) (k i : ℕ) → 4 ≤ i → i < k + 4 → k + 3 < length l → get_or (edges_to net follow l k) i 0 ≡ feeder_of net follow i
 unfolding edges_to
 edges_below net follow l zero i a b h = absurd (omega arith)
 edges_below net follow l (suc k) i a b h = go (ℕ_discrete i (k + 4)) (edges_below net follow l k i a)
@@ -64,29 +66,25 @@ edges_below net follow l (suc k) i a b h = go (ℕ_discrete i (k + 4)) (edges_be
         rw e (get_or-set_same (edges_to net follow l k) (k + 4) (feeder_of net follow (k + 4)) 0 (omega (arith, length_edges net follow l k)))
     go (no d) below = get_or-set_other (edges_to net follow l k) (k + 4) i _ 0 d ∙ below (omega arith) (omega arith)
 
-edges_beyond : (net follow l : List ℕ) (k i : ℕ) → (4 ≤ i → k + 4 ≤ i) → get_or (edges_to net follow l k) i 0 ≡ get_or l i 0
+edges_beyond : (net : List ℕ) (follow : List Bool) (l : List ℕ) (k i : ℕ) → (4 ≤ i → k + 4 ≤ i) → get_or (edges_to net follow l k) i 0 ≡ get_or l i 0
 unfolding edges_to
 edges_beyond net follow l zero i h = refl
 edges_beyond net follow l (suc k) i h =
     get_or-set_other (edges_to net follow l k) (k + 4) i _ 0 (λ (e : i ≡ k + 4). omega (arith, h (omega arith)))
     ∙ edges_beyond net follow l k i (λ a. omega (arith, h a))
 
-one_if : (b : Bool) → one b ≡ 1 → b ≡ true
-one_if true e = refl
-one_if false e = absurd (omega arith)
-
 module _ (net : List ℕ) (size : ℕ) (lines : Lines net size) where
-  abbrev follow : List ℕ
+  abbrev follow : List Bool
   follow = follow_of net size
 
   abbrev edges : List ℕ
   edges = edges_of net size
 
   follow_length : length follow ≡ 4097
-  follow_length = length_follow net (zeros 4097) size ∙ length-replicate {A = ℕ} 4097 0
+  follow_length = length_follow net none_marked size ∙ length-replicate {A = Bool} 4097 false
 
   edges_length : length edges ≡ 16388
-  edges_length = length_edges net follow (zeros 16388) (4 * size) ∙ length-replicate {A = ℕ} 16388 0
+  edges_length = length_edges net follow none_entered (4 * size) ∙ length-replicate {A = ℕ} 16388 0
 
   -- a mark stands at the rank-order gates alone
   record Rank (s : ℕ) : Type 0 where
@@ -94,42 +92,35 @@ module _ (net : List ℕ) (size : ℕ) (lines : Lines net size) where
     high : s ≤ size
     kind : net_field net s 0 ≡ rank_order
 
-  marked : (s : ℕ) → Rank s → get_or follow s 0 ≡ 1
-  marked s r =
-      follow_below net (zeros 4097) size s r.low r.high (omega (arith, lines.small, length-replicate {A = ℕ} 4097 0))
-      ∙ ap one (eq-eqb (net_field net s 0) rank_order r.kind)
+  mark : (s : ℕ) → 1 ≤ s → s ≤ size → get_or follow s false ≡ eqb (net_field net s 0) rank_order
+  mark s low high = follow_below net none_marked size s low high (omega (arith, lines.small, length-replicate {A = Bool} 4097 false))
 
-  unmarked : (s : ℕ) → (1 ≤ s → size < s) → get_or follow s 0 ≡ 0
-  unmarked s h = follow_beyond net (zeros 4097) size s h ∙ all_zero 4097 s
+  marked : (s : ℕ) → Rank s → get_or follow s false ≡ true
+  marked s r = mark s r.low r.high ∙ eq-eqb (net_field net s 0) rank_order r.kind
 
-  rank_marked : (s : ℕ) → get_or follow s 0 ≡ 1 → Rank s
+  unmarked : (s : ℕ) → (1 ≤ s → size < s) → get_or follow s false ≡ true → ⊥
+  unmarked s h e = true≢false (sym e ∙ follow_beyond net none_marked size s h ∙ all_same false 4097 s)
+
+  rank_marked : (s : ℕ) → get_or follow s false ≡ true → Rank s
   rank_marked s e = go (dec_le 1 s) (dec_le s size)
     where
       go : Dec (1 ≤ s) → Dec (s ≤ size) → Rank s
-      go (no a) d = absurd (omega (arith, unmarked s (λ (h : 1 ≤ s). absurd (a h))))
-      go (yes a) (no d) = absurd (omega (arith, unmarked s (λ (h : 1 ≤ s). omega arith)))
-      go (yes a) (yes d) =
-          record {
-            low = a;
-            high = d;
-            kind =
-                eqb-true (net_field net s 0) rank_order
-                (one_if (eqb (net_field net s 0) rank_order)
-                (sym (follow_below net (zeros 4097) size s a d (omega (arith, lines.small, length-replicate {A = ℕ} 4097 0))) ∙ e));
-          }
+      go (no a) d = absurd (unmarked s (λ (h : 1 ≤ s). absurd (a h)) e)
+      go (yes a) (no d) = absurd (unmarked s (λ (h : 1 ≤ s). omega arith) e)
+      go (yes a) (yes d) = record { low = a; high = d; kind = eqb-true (net_field net s 0) rank_order (sym (mark s a d) ∙ e) }
 
   -- what an entry names
   entry : (y j : ℕ) → 1 ≤ y → y ≤ size → j < 4 → get_or edges (4 * y + j) 0 ≡ feeder_of net follow (4 * y + j)
   entry y j a b l =
-      edges_below net follow (zeros 16388) (4 * size) (4 * y + j) (omega arith) (omega arith)
+      edges_below net follow none_entered (4 * size) (4 * y + j) (omega arith) (omega arith)
       (omega (arith, lines.small, length-replicate {A = ℕ} 16388 0))
 
   no_entry : (i : ℕ) → (4 ≤ i → 4 * size + 4 ≤ i) → get_or edges i 0 ≡ 0
-  no_entry i h = edges_beyond net follow (zeros 16388) (4 * size) i h ∙ all_zero 16388 i
+  no_entry i h = edges_beyond net follow none_entered (4 * size) i h ∙ all_same {A = ℕ} 0 16388 i
 
   feeder : (y j : ℕ) → j < 4
       → feeder_of net follow (4 * y + j)
-      ≡ (if eqb (get_or follow y 0) 1 then (if eqb (get_or follow (net_field net y (8 + j)) 0) 1 then net_field net y (8 + j) else 0) else 0)
+      ≡ (if get_or follow y false then (if get_or follow (net_field net y (8 + j)) false then net_field net y (8 + j) else 0) else 0)
   unfolding feeder_of
   feeder y j l =
       let a : (4 * y + j) / 4 ≡ y = omega arith in
@@ -143,7 +134,7 @@ module _ (net : List ℕ) (size : ℕ) (lines : Lines net size) where
 
   -- an entry that names a gate names a source of a gate, both rank-order
   entry_source : (x y j : ℕ) → 1 ≤ x → 1 ≤ y → y ≤ size → j < 4 → get_or edges (4 * y + j) 0 ≡ x → Source x y j
-  entry_source x y j some a b l e = go (eqb (get_or follow y 0) 1) refl (sym (feeder y j l) ∙ sym (entry y j a b l) ∙ e)
+  entry_source x y j some a b l e = go (get_or follow y false) refl (sym (feeder y j l) ∙ sym (entry y j a b l) ∙ e)
     where
       from : ℕ
       from = net_field net y (8 + j)
@@ -151,16 +142,16 @@ module _ (net : List ℕ) (size : ℕ) (lines : Lines net size) where
       inner : Bool → ℕ
       inner c = if c then from else 0
 
-      go : (c : Bool) → eqb (get_or follow y 0) 1 ≡ c → (if c then inner (eqb (get_or follow from 0) 1) else 0) ≡ x → Source x y j
+      go : (c : Bool) → get_or follow y false ≡ c → (if c then inner (get_or follow from false) else 0) ≡ x → Source x y j
       go false p q = absurd (omega arith)
-      go true p q = second (eqb (get_or follow from 0) 1) refl q
+      go true p q = second (get_or follow from false) refl q
         where
-          second : (c : Bool) → eqb (get_or follow from 0) 1 ≡ c → inner c ≡ x → Source x y j
+          second : (c : Bool) → get_or follow from false ≡ c → inner c ≡ x → Source x y j
           second false r u = absurd (omega arith)
           second true r u =
               record {
-                gate = rank_marked y (eqb-true (get_or follow y 0) 1 p);
-                source = subst Rank u (rank_marked from (eqb-true (get_or follow from 0) 1 r));
+                gate = rank_marked y p;
+                source = subst Rank u (rank_marked from r);
                 is = u;
               }
 
@@ -254,13 +245,11 @@ module _ (net : List ℕ) (size : ℕ) (lines : Lines net size) where
       → P (get_or edges (4 * y + j) 0)
   unfolding network
   entry_cases P y j f l some none =
-      subst P (sym (entry y j f.low f.high l ∙ feeder y j l ∙ rw f.chosen)) (go (eqb (get_or follow x 0) 1) refl)
+      subst P (sym (entry y j f.low f.high l ∙ feeder y j l ∙ rw f.chosen)) (go (get_or follow x false) refl)
     where
       x : ℕ
       x = net_field net y (8 + j)
 
-      go : (b : Bool) → eqb (get_or follow x 0) 1 ≡ b → P (if b then x else 0)
-      go true e =
-          let r = rank_marked x (eqb-true (get_or follow x 0) 1 e) in
-          some (record { low = r.low; high = r.high; chosen = eqb-true (get_or follow x 0) 1 e })
-      go false e = none (λ g. eqb-false (get_or follow x 0) 1 e g.chosen)
+      go : (b : Bool) → get_or follow x false ≡ b → P (if b then x else 0)
+      go true e = let r = rank_marked x e in some (record { low = r.low; high = r.high; chosen = e })
+      go false e = none (λ g. true≢false (sym g.chosen ∙ e))

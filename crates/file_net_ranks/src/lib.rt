@@ -6,7 +6,7 @@ ghost use Rattle.std.specs.Prelude.{◌≡◌};
 ghost use Rattle.model.specs.Netlist.{network};
 ghost use Rattle.file_net_ranks.specs.Ranks.{ranks_of};
 
-use file_net_graph::load_graph;
+use file_net_graph::CheckedLines;
 use graph_ranks::{ENTRIES, Graph, PLACES};
 use netlist::Netlist;
 
@@ -16,14 +16,14 @@ use netlist::Netlist;
 pub fn rank_signals(net: &Netlist, ranks: &mut [u16; PLACES])
     ensures { ranks.new ≡ ranks_of (network net.now.net.now) }
 {
-    let size = net.signals();
-    let mut follow = [0u8; PLACES];
+    let lines = CheckedLines::new(net.net, net.signals());
+    let mut follow = [false; PLACES];
     let mut edges = [0u16; ENTRIES];
-    load_graph(net.net, size, &mut follow, &mut edges);
+    lines.load_graph(&mut follow, &mut edges);
     let graph = Graph {
         follow: &follow,
         edges: &edges,
-        size: usize::from(size),
+        size: lines.size,
     };
     graph.rank_all(ranks);
 }

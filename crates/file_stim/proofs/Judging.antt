@@ -1,6 +1,6 @@
 -- The numbers of a line, with those of the line before, judge as the definitions of STIM do.
 use Prim.Native.Nat.{ℕ, zero, suc, ◌+◌, ◌≤◌}
-use mathlib.Core.Path.{◌≡◌, refl, sym}
+use mathlib.Core.Path.{◌≡◌, refl, sym, ◌∙◌, ap}
 use mathlib.Core.Bool.{Bool, true, false}
 use mathlib.Core.List.{List}
 use native.Mathlib.Omega.{arith}
@@ -21,9 +21,13 @@ use Rattle.file_stim.specs.declared.Line.{Line}
 use Rattle.file_stim.specs.Answer.{stim_refusal}
 use Rattle.file_stim.specs.Judging.{numbers_of, numbers_before, ends, rises, gives, may, judged_end, judged_given}
 
-pub ends_is : (stim : List ℕ) (index : ℕ) → ends (numbers_of stim index) ≡ is_end stim index
+ends_is : (stim : List ℕ) (index : ℕ) → is_end stim index ≡ ends (numbers_of stim index)
 unfolding ends is_end
 ends_is stim index = refl
+
+-- a line is the end line by its numbers
+pub ended : (stim : List ℕ) (index : ℕ) {here : Line} → here ≡ numbers_of stim index → {b : Bool} → b ≡ ends here → is_end stim index ≡ b
+ended stim index is e = ends_is stim index ∙ ap ends (sym is) ∙ sym e
 
 time_before_lem : (stim : List ℕ) (index : ℕ) → (numbers_before stim index).time.0 ≡ time_before stim index
 unfolding numbers_before time_before

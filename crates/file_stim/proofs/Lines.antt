@@ -24,7 +24,7 @@ use Rattle.file_stim.specs.declared.StimRefusal.TheVariants.{Misformed}
 use Rattle.file_stim.specs.declared.Line.{Line}
 use Rattle.file_stim.specs.Answer.{stim_refusal, StimAnswers}
 use Rattle.file_stim.specs.Judging.{numbers_of, numbers_before, ends, judged_end, judged_given}
-use Rattle.file_stim.proofs.Judging.{ends_is, not_passed, given_is, end_is, end_accepts}
+use Rattle.file_stim.proofs.Judging.{ended, not_passed, given_is, end_is, end_accepts}
 
 -- Every line below index is right and gives a value, so that the check and the count are those of the lines from there on
 pub record Reached (n : Network) (stim : List ℕ) (index : ℕ) : Type 0 where
@@ -75,8 +75,8 @@ module _ (n : Network) (stim : List ℕ) (index : ℕ) (reached : Reached n stim
 
     -- the line, judged by its numbers and those in hand
     module _ {before here : Line} (in_hand : before ≡ numbers_before stim index) (numbers : here ≡ numbers_of stim index) where
-      ended : {b : Bool} → b ≡ ends here → is_end stim index ≡ b
-      ended e = sym (ends_is stim index) ∙ ap ends (sym numbers) ∙ sym e
+      ends_here : {b : Bool} → b ≡ ends here → is_end stim index ≡ b
+      ends_here = ended stim index numbers
 
       module _ {r : Result Unit StimRefusal} (e : false ≡ ends here) (judged : r ≡ judged_given n index before here) where
         given_check : stim_given n stim index ≡ answered stim_refusal r
@@ -85,14 +85,14 @@ module _ (n : Network) (stim : List ℕ) (index : ℕ) (reached : Reached n stim
         pub given_wrong : {refusal : StimRefusal} → r ≡ Err refusal → StimAnswers stim (stim_check n stim) (Err refusal)
         given_wrong {refusal} q =
             let is = given_check ∙ ap (answered stim_refusal) q in
-            renamed refl (sym (check_next (ended e))) (stays _ (sym is) (λ p. not_passed refusal (sym is ∙ p)))
+            renamed refl (sym (check_next (ends_here e))) (stays _ (sym is) (λ p. not_passed refusal (sym is ∙ p)))
 
         pub line_passed : ((refusal : StimRefusal) → r ≡ Err refusal → ⊥) → Reached n stim (index + 1)
         line_passed other =
             record {
               few = omega arith;
-              check = check_next (ended e) ∙ first_second _ _ (given_check ∙ right r other);
-              count = count_next (ended e);
+              check = check_next (ends_here e) ∙ first_second _ _ (given_check ∙ right r other);
+              count = count_next (ends_here e);
             }
           where
             right : (r : Result Unit StimRefusal) → ((refusal : StimRefusal) → r ≡ Err refusal → ⊥) → answered stim_refusal r ≡ pass
@@ -104,12 +104,12 @@ module _ (n : Network) (stim : List ℕ) (index : ℕ) (reached : Reached n stim
       end_answers e at place {r} judged =
           let same : at + 19 ≡ stim_line (index + 1) = omega arith in
           let is : r ≡ judged_end index last (numbers_before stim index) (numbers_of stim index) = judged ∙ rw (in_hand, numbers, same) in
-          let refusal = ap (answered stim_refusal) is ∙ end_is n stim index ∙ sym (check_end (ended e)) in
+          let refusal = ap (answered stim_refusal) is ∙ end_is n stim index ∙ sym (check_end (ends_here e)) in
           record {
             refuses = refusal;
             accepts =
                 λ p.
-                is ∙ end_accepts index last _ _ (ap (answered stim_refusal) (sym is) ∙ refusal ∙ p) ∙ ap Ok (sym (count_end (ended e)));
+                is ∙ end_accepts index last _ _ (ap (answered stim_refusal) (sym is) ∙ refusal ∙ p) ∙ ap Ok (sym (count_end (ends_here e)));
           }
 
 -- the numbers in hand at the next line

@@ -1,138 +1,114 @@
--- STIM line by line. In an accepted STIM every line up to the end line can be read, the lines before it give values, and it gives T.
+-- STIM line by line. In an accepted STIM every line up to the end line can be read, and the lines before it give values.
 use Prim.Native.Nat.{ℕ, ◌+◌, ◌*◌, ◌<◌, ◌≤◌}
-use mathlib.Core.Path.{◌≡◌, refl, sym, ◌∙◌, ap}
-use mathlib.Core.Bool.{Bool, true, false}
+use mathlib.Core.Path.{◌≡◌, sym, subst, ◌∙◌, ap}
+use mathlib.Core.Bool.{Bool, true, false, Bool-set, true≢false}
 use mathlib.Core.List.{List}
+use mathlib.Core.Logic.{∥∥₁_elim}
 use native.Mathlib.Omega.{arith}
 use native.Mathlib.Decide.{ℕ_discrete}
+use lib.Dec.{eqb}
 use lib.ListN.{length}
+use borrow.Author.Tests.{eqb-true, eq-eqb}
+use Rattle.std.specs.Prelude.{Option, Some, None, MatchOption}
+use Rattle.std.specs.Bool.{then_some}
 use Rattle.fields.specs.Field.{is_field_at}
 use Rattle.fields.specs.Line.{is_line_at}
-use Rattle.model.specs.Refusal.{pass}
-use Rattle.model.specs.Network.{Network}
-use Rattle.model.specs.Stimulus.{stim_line, stim_time, stim_signal, stim_value, is_end, stim_check, stim_count}
+use Rattle.model.specs.Stimulus.{stim_line, stim_time, stim_signal, stim_value, is_end, stim_count}
 use Rattle.model.proofs.Accepted.{stim_right}
-use Rattle.model.proofs.RightLine.{line_field, line_within}
-use Rattle.std.specs.Prelude.{Option, Some, None, if◌then◌else◌}
-use Rattle.std.specs.Option.{MatchOption}
-use Rattle.std.specs.Bool.{then_some}
-use Rattle.std.proofs.lemmas.Option.{none-some, same_Some, MatchOption-at_some, MatchOption-at_none}
-use borrow.Author.Tests.{eqb-true, eq-eqb}
-use lib.Dec.{eqb}
+use Rattle.fields.proofs.RightLine.{line_field, line_within}
 use Rattle.file_stim.specs.declared.Line.{Line}
+use Rattle.file_stim.specs.declared.Stimulus.{Stimulus}
 use Rattle.file_stim.specs.declared.Cursor.{Cursor}
-use Rattle.file_stim.specs.Judging.{numbers_of, ends}
-use Rattle.file_stim.specs.Stepping.{step_at, step_of}
-use Rattle.file_stim.proofs.Judging.{ends_is}
+use Rattle.file_stim.specs.Acceptance.{SomeAccepts}
+use Rattle.file_stim.specs.Stepping.{Steps, StepAt, StepOf}
 
--- the fields of a right line
-module _ (stim : List ℕ) (line : ℕ) (right : is_line_at stim (stim_line line) 3 ≡ true) where
-  pub time_field : is_field_at stim (19 * line) ≡ true
-  time_field =
-      let e : 19 * line + 6 * 0 ≡ 19 * line = omega arith in
-      rw e at (line_field stim (19 * line) 3 right 0 (omega arith))
+-- what an accepted STIM gives, whatever network it is for
+module _ {stim : List ℕ} (accepted : ∥ SomeAccepts stim ∥₁) where
+  given : {line : ℕ} → line < stim_count stim → (is_line_at stim (stim_line line) 3 ≡ true) × (is_end stim line ≡ false)
+  given h = (
+    ∥∥₁_elim accepted (Bool-set _ _) (λ a. ((stim_right a.network stim a.passes).given _ h).line),
+    ∥∥₁_elim accepted (Bool-set _ _) (λ a. ((stim_right a.network stim a.passes).given _ h).no_end),
+  )
 
-  pub signal_field : is_field_at stim (19 * line + 6) ≡ true
-  signal_field = line_field stim (19 * line) 3 right 1 (omega arith)
+  end : (is_line_at stim (stim_line (stim_count stim)) 3 ≡ true) × (is_end stim (stim_count stim) ≡ true)
+  end = (
+    ∥∥₁_elim accepted (Bool-set _ _) (λ a. (stim_right a.network stim a.passes).end.line),
+    ∥∥₁_elim accepted (Bool-set _ _) (λ a. (stim_right a.network stim a.passes).end.is_end_lem),
+  )
 
-  pub value_field : is_field_at stim (19 * line + 12) ≡ true
-  value_field = line_field stim (19 * line) 3 right 2 (omega arith)
+  -- each line up to the end line is right
+  pub line_right : {line : ℕ} → line ≤ stim_count stim → is_line_at stim (stim_line line) 3 ≡ true
+  line_right {line} h = go (ℕ_discrete line (stim_count stim))
+    where
+      go : Dec (line ≡ stim_count stim) → is_line_at stim (stim_line line) 3 ≡ true
+      go (yes e) = rw e end.0
+      go (no d) = (given (omega arith)).0
 
-  pub line_fits : 19 * line + 19 ≤ length stim
-  line_fits = line_within stim (19 * line) 3 right
+  -- one that is not the end line stands before it
+  pub before_end : {line : ℕ} → line ≤ stim_count stim → is_end stim line ≡ false → line < stim_count stim
+  before_end {line} h e = go (ℕ_discrete line (stim_count stim))
+    where
+      go : Dec (line ≡ stim_count stim) → line < stim_count stim
+      go (yes q) = absurd (true≢false (sym end.1 ∙ rw q at e))
+      go (no d) = omega arith
 
-pub ruleset line_fields = (time_field, signal_field, value_field, line_fits)
+-- the first field of a right line
+pub time_field : (stim : List ℕ) (line : ℕ) → is_line_at stim (stim_line line) 3 ≡ true → is_field_at stim (19 * line) ≡ true
+time_field stim line right =
+    let e : 19 * line + 6 * 0 ≡ 19 * line = omega arith in
+    rw e at (line_field stim (19 * line) 3 right 0 (omega arith))
 
--- the step from the numbers of a line
-module _ (stim : List ℕ) (line : ℕ) (here : Line) (is : here ≡ numbers_of stim line) where
-  ended : is_end stim line ≡ ends here
-  ended = sym (ends_is stim line) ∙ ap ends (sym is)
+-- a right line lies within the bytes
+pub line_fits : (stim : List ℕ) (line : ℕ) → is_line_at stim (stim_line line) 3 ≡ true → 19 * line + 19 ≤ length stim
+line_fits stim line right = line_within stim (19 * line) 3 right
 
-  pub step_ends : ends here ≡ true → step_at stim line ≡ None
-  unfolding step_at
-  step_ends e = rw (ended, e)
-
-  pub step_gives : ends here ≡ false → step_at stim line ≡ Some (here, record { line = line + 1 })
-  unfolding step_at
-  step_gives e = rw (ended, e, is)
+-- and so does the line at a cursor
+pub cursor_fits : (c : Cursor) → 19 * c.line + 19 ≤ length c.stimulus.bytes.now
+cursor_fits c = line_fits c.stimulus.bytes.now c.line (line_right c.stimulus.accepted c.within)
 
 -- a step that is kept where its time is t, by what the call of the filter says that it did
-module _ (stim : List ℕ) (t line : ℕ) where
-  abbrev step : Line × Cursor
-  step = (numbers_of stim line, record { line = line + 1 })
+module _ (c : Cursor) where
+  abbrev stim : List ℕ
+  stim = c.stimulus.bytes.now
 
-  module _ {found kept : Option (Line × Cursor)} (is : found ≡ step_at stim line) (Tested : Line × Cursor → Bool → Type 0)
-      (did : MatchOption found (kept ≡ None) (λ x. (b : Bool) × Tested x b × (kept ≡ then_some b x)))
-      (tests : (x : Line × Cursor) (b : Bool) → Tested x b → b ≡ eqb x.0.time.0 t) where
-    given : is_end stim line ≡ false → kept ≡ then_some (eqb (stim_time stim line) t) step
-    unfolding step_at
-    given e =
-        let ran = MatchOption-at_some _ _ step (is ∙ rw e) did in
-        ran.2 ∙ ap (λ (b : Bool). then_some b step) (tests step _ ran.1)
+  pub step_filtered : (t : ℕ) (found kept : Option (Line × Cursor)) → StepAt c found → (Tested : Line × Cursor → Bool → Type 0)
+      → MatchOption found (kept ≡ None) (λ x. (b : Bool) × Tested x b × (kept ≡ then_some b x))
+      → ((x : Line × Cursor) (b : Bool) → Tested x b → b ≡ eqb x.0.time.0 t) → StepOf c t kept
+  step_filtered t found kept step Tested did tests = go found step did
+    where
+      keep : (x : Line × Cursor) → Steps c x.0 x.1 → (b : Bool) → eqb (stim_time stim c.line) t ≡ b → kept ≡ then_some b x → StepOf c t kept
+      keep x steps true now e = subst (StepOf c t) (sym e) (steps, eqb-true _ _ now)
+      keep x steps false now e = subst (StepOf c t) (sym e) (λ n q. true≢false (sym (eq-eqb _ _ q) ∙ now))
 
-    none : is_end stim line ≡ true → kept ≡ None
-    unfolding step_at
-    none e = MatchOption-at_none _ _ (is ∙ rw e) did
+      go : (found : Option (Line × Cursor)) → StepAt c found
+          → MatchOption found (kept ≡ None) (λ x. (b : Bool) × Tested x b × (kept ≡ then_some b x)) → StepOf c t kept
+      go None ends none = subst (StepOf c t) (sym none) (λ n q. true≢false (sym ends ∙ n))
+      go (Some x) steps ran =
+          keep x steps ran.0 (ap (λ (y : Line). eqb y.time.0 t) (sym steps.numbers) ∙ sym (tests x ran.0 ran.1)) ran.2
 
-    pub step_filtered : kept ≡ step_of stim t line
-    unfolding step_of step_at
-    step_filtered = go (is_end stim line) refl (eqb (stim_time stim line) t) refl
-      where
-        go : (ends : Bool) → is_end stim line ≡ ends → (now : Bool) → eqb (stim_time stim line) t ≡ now
-            → kept ≡ (if now then if ends then None else Some step else None)
-        go true e true q = none e
-        go true e false q = none e
-        go false e true q = given e ∙ ap (λ (b : Bool). then_some b step) q
-        go false e false q = given e ∙ ap (λ (b : Bool). then_some b step) q
-
--- a step that gives a value at time t, at a line before the end line
-pub record GivenAt (stim : List ℕ) (t line : ℕ) (given : Line) (next : Cursor) : Type 0 where
+-- a line before the end line that gives a value at time t, and the line after it
+pub record GivenAt (stim : List ℕ) (t line : ℕ) (given : Line) (next : ℕ) : Type 0 where
   pub before_end : line < stim_count stim
   pub time_is : stim_time stim line ≡ t
   pub signal_is : given.signal ≡ stim_signal stim line
   pub value_is : given.value ≡ stim_value stim line
-  pub follows : next.line ≡ line + 1
+  pub follows : next ≡ line + 1
 
--- An accepted STIM
-module _ (n : Network) (stim : List ℕ) (accepted : stim_check n stim ≡ pass) where
-  -- what `Cursor::next` requires
-  pub line_right : (line : ℕ) → line ≤ stim_count stim → is_line_at stim (stim_line line) 3 ≡ true
-  line_right line h = go (ℕ_discrete line (stim_count stim))
-    where
-      go : Dec (line ≡ stim_count stim) → is_line_at stim (stim_line line) 3 ≡ true
-      go (yes e) = rw e (stim_right n stim accepted).end.line
-      go (no d) = ((stim_right n stim accepted).given line (omega arith)).line
+-- what a step of time t tells, from a cursor of a STIM
+pub given_at : (c : Cursor) {s : Stimulus} → c.stimulus ≡ s → {t : ℕ} {line : Line} {next : Cursor}
+    → Steps c line next × (stim_time c.stimulus.bytes.now c.line ≡ t) → GivenAt s.bytes.now t c.line line next.line
+given_at c same {t} {line} {next} told =
+    subst (λ (y : Stimulus). GivenAt y.bytes.now t c.line line next.line) same
+    (record {
+      before_end = before_end c.stimulus.accepted c.within told.0.no_end;
+      time_is = told.1;
+      signal_is = ap (λ (y : Line). y.signal) told.0.numbers;
+      value_is = ap (λ (y : Line). y.value) told.0.numbers;
+      follows = told.0.follows;
+    })
 
-  step_before_end : (line : ℕ) → line < stim_count stim → step_at stim line ≡ Some (numbers_of stim line, record { line = line + 1 })
-  unfolding step_at
-  step_before_end line h = rw ((stim_right n stim accepted).given line h).no_end
-
-  step_at_end : step_at stim (stim_count stim) ≡ None
-  unfolding step_at
-  step_at_end = rw (stim_right n stim accepted).end.is_end_lem
-
-  -- what a step of time t tells
-  pub given_at : (t line : ℕ) → line ≤ stim_count stim → (given : Line) (next : Cursor) → step_of stim t line ≡ Some (given, next)
-      → GivenAt stim t line given next
-  unfolding step_of
-  given_at t line h given next e = go (eqb (stim_time stim line) t) refl (ℕ_discrete line (stim_count stim)) e
-    where
-      go : (b : Bool) → eqb (stim_time stim line) t ≡ b → Dec (line ≡ stim_count stim) → (if b then step_at stim line else None) ≡ Some (given, next)
-          → GivenAt stim t line given next
-      go false f d q = absurd (none-some _ q)
-      go true f (yes same) q = absurd (none-some _ (sym step_at_end ∙ rw same at q))
-      go true f (no d) q =
-          let low : line < stim_count stim = omega arith in
-          let both = same_Some _ _ (sym (step_before_end line low) ∙ q) in
-          record {
-            before_end = low;
-            time_is = eqb-true _ _ f;
-            signal_is = sym (ap (λ (p : Line × Cursor). p.0.signal) both);
-            value_is = sym (ap (λ (p : Line × Cursor). p.0.value) both);
-            follows = sym (ap (λ (p : Line × Cursor). p.1.line) both);
-          }
-
-  pub none_at : (t line : ℕ) → line ≤ stim_count stim → step_of stim t line ≡ None → line < stim_count stim → stim_time stim line ≡ t → ⊥
-  unfolding step_of
-  none_at t line h e low same =
-      none-some _ (sym (rw (eq-eqb (stim_time stim line) t same, step_before_end line low) at e))
+pub none_at : {at s : Stimulus} → at ≡ s → {line t : ℕ} → (is_end at.bytes.now line ≡ false → stim_time at.bytes.now line ≡ t → ⊥)
+    → line < stim_count s.bytes.now → stim_time s.bytes.now line ≡ t → ⊥
+none_at {at} same {line} {t} none =
+    subst (λ (y : Stimulus). line < stim_count y.bytes.now → stim_time y.bytes.now line ≡ t → ⊥) same
+    (λ low q. none (given at.accepted low).1 q)

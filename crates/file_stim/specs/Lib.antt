@@ -1,3 +1,4 @@
+pub mod Acceptance
 pub mod Answer
 pub mod Stepping
 pub mod Judging

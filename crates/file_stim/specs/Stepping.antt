@@ -1,15 +1,23 @@
--- STIM line by line: what the line at an index says.
-use Rattle.std.specs.Prelude.{ℕ, ◌+◌, List, Option, Some, None, eqb}
-use Rattle.std.specs.Prelude.{if◌then◌else◌}
+-- STIM line by line: what a step from a cursor gives.
+use Rattle.std.specs.Prelude.{ℕ, ◌+◌, ◌≡◌, true, false, Option, MatchOption}
 use Rattle.model.specs.Stimulus.{stim_time, is_end}
 use Rattle.file_stim.specs.declared.Line.{Line}
 use Rattle.file_stim.specs.declared.Cursor.{Cursor}
 use Rattle.file_stim.specs.Judging.{numbers_of}
 
--- time, signal and value, and then the next line; none at the end line
-unfoldable pub step_at : List ℕ → ℕ → Option (Line × Cursor)
-step_at stim line = if is_end stim line then None else Some (numbers_of stim line, record { line = line + 1 })
+-- the line at a cursor, which is not the end line, and the cursor on the next line of the same STIM
+pub record Steps (c : Cursor) (line : Line) (next : Cursor) : Type 0 where
+  pub no_end : is_end c.stimulus.bytes.now c.line ≡ false
+  pub numbers : line ≡ numbers_of c.stimulus.bytes.now c.line
+  pub same : next.stimulus ≡ c.stimulus
+  pub follows : next.line ≡ c.line + 1
+
+-- these; none at the end line
+abbrev pub StepAt : Cursor → Option (Line × Cursor) → Type 0
+StepAt c step = MatchOption step (is_end c.stimulus.bytes.now c.line ≡ true) (λ x. Steps c x.0 x.1)
 
 -- the same, where the line is of time t
-unfoldable pub step_of : List ℕ → ℕ → ℕ → Option (Line × Cursor)
-step_of stim t line = if eqb (stim_time stim line) t then step_at stim line else None
+abbrev pub StepOf : Cursor → ℕ → Option (Line × Cursor) → Type 0
+StepOf c t step =
+    MatchOption step (is_end c.stimulus.bytes.now c.line ≡ false → stim_time c.stimulus.bytes.now c.line ≡ t → ⊥)
+    (λ x. Steps c x.0 x.1 × (stim_time c.stimulus.bytes.now c.line ≡ t))

@@ -2,13 +2,13 @@
 
 #![tactic(auto)]
 
-ghost use Rattle.std.specs.Prelude.{◌≡◌, true, ◌<◌};
+ghost use Rattle.std.specs.Prelude.{◌≡◌, true, ◌<◌, ◌≤◌};
 ghost use Rattle.fields.specs.Line.{is_line_at};
 ghost use Rattle.model.specs.Network.{is_signal};
 ghost use Rattle.model.specs.Netlist.{network};
-ghost use Rattle.model.specs.Stimulus.{stim_line, stim_limit, stim_check};
+ghost use Rattle.model.specs.Stimulus.{stim_line, stim_limit, stim_check, stim_count};
+ghost use Rattle.file_stim.specs.Acceptance.{SomeAccepts};
 ghost use Rattle.file_stim.specs.Answer.{StimAnswers};
-ghost use Rattle.file_stim.specs.Stepping.{step_at, step_of};
 ghost use Rattle.file_stim.specs.Judging.{numbers_of, ends, rises, gives, may, judged_end, judged_given};
 
 use clock::Cycle;
@@ -45,13 +45,36 @@ pub struct Line {
     pub value: u16,
 }
 
-// A place among the lines: how many are passed, and so the index of the next.
+// The bytes of a STIM that is accepted, by whatever network.
 #[derive(Clone, Copy)]
-pub struct Cursor {
+pub struct Stimulus<'a> {
+    pub bytes: &'a [u8],
+    pub ghost accepted: { ∥ SomeAccepts bytes.now ∥₁ },
+}
+
+// A place among its lines: how many are passed, and so the index of the next. The end line is the last.
+#[derive(Clone, Copy)]
+pub struct Cursor<'a> {
+    pub stimulus: Stimulus<'a>,
     pub line: usize,
+    pub ghost within: { line ≤ stim_count stimulus.bytes.now },
 }
 
 impl Line {
+    // What a right line says.
+    #[tactic(auto, using(crate::proofs::Steps::line_fits))]
+    pub fn at(stim: &[u8], index: usize) -> Line
+        requires { is_line_at stim.now (stim_line index) 3 ≡ true }
+        ensures { result ≡ numbers_of stim.now index }
+    {
+        let numbers = fields::Line::<3>::new(stim, 19 * index);
+        Line {
+            time: Cycle(numbers.number(0)),
+            signal: numbers.number(1),
+            value: numbers.number(2),
+        }
+    }
+
     // "The last line is T, 0, 0".
     #[tactic(auto, using(logic::proofs::Judged::connected), unfolding(crate::specs::Judging::ends))]
     fn is_end(self) -> bool
@@ -65,7 +88,7 @@ impl Line {
     fn is_above(self, before: Line) -> bool
         ensures { result ≡ rises before self }
     {
-        (before.time.0, before.signal) < (self.time.0, self.signal)
+        (before.time, before.signal) < (self.time, self.signal)
     }
 }
 
@@ -75,7 +98,7 @@ fn judge_end(index: u16, last: bool, before: Line, here: Line) -> Result<u16, St
     requires { index < stim_limit }
     ensures { result ≡ judged_end index last before here }
 {
-    if here.time.0 < before.time.0 {
+    if here.time < before.time {
         return Err(StimRefusal::Layout(index + 1));
     }
     if !last {
@@ -98,7 +121,7 @@ fn may_give(net: &Netlist, here: Line) -> bool
     requires { is_signal (network net.now.net.now) here.signal ≡ true }
     ensures { result ≡ may (network net.now.net.now) here }
 {
-    here.time.0 == 0 || net.is_input(here.signal)
+    here.time == Cycle(0) || net.is_input(here.signal)
 }
 
 // A line that gives a value: 31 where the signal, the value or the order is wrong, then 32 for a gate at a later time.
@@ -129,6 +152,7 @@ pub fn check_stim(net: &Netlist, stim: &[u8]) -> Result<u16, StimRefusal>
     };
     'lines: for index in 0..65534 {
         let at = 19 * usize::from(index);
+        // An array that is filled field by field: a labelled loop over lines and fields is asked for (01, Where each language form goes).
         let mut numbers = [0u16; 3];
         for column in 0..3 {
             let Some((number, _)) = fields::read_field(stim, at + 6 * column) else {
@@ -159,41 +183,39 @@ pub fn check_stim(net: &Netlist, stim: &[u8]) -> Result<u16, StimRefusal>
     answer
 }
 
-impl Cursor {
-    // What the line at the cursor says. In an accepted STIM each line up to the end line is right.
-    #[tactic(auto, using(crate::proofs::Steps::line_fields))]
-    pub fn here(self, stim: &[u8]) -> Line
-        requires { is_line_at stim.now (stim_line self.line) 3 ≡ true }
-        ensures { result ≡ numbers_of stim.now self.line }
+impl<'a> Cursor<'a> {
+    ghost use Rattle.file_stim.specs.Stepping.{StepAt, StepOf};
+
+    // What the line at the cursor says.
+    #[tactic(auto, using(crate::proofs::Steps::line_right))]
+    pub fn here(self) -> Line
+        ensures { result ≡ numbers_of self.entry.stimulus.bytes.now self.entry.line }
     {
-        let at = 19 * self.line;
-        Line {
-            time: Cycle(fields::number_at(stim, at)),
-            signal: fields::number_at(stim, at + 6),
-            value: fields::number_at(stim, at + 12),
-        }
+        Line::at(self.stimulus.bytes, self.line)
     }
 
     // The line at the cursor, which gives a value, with the cursor after it; none at the end line.
-    pub fn next(self, stim: &[u8]) -> Option<(Line, Cursor)>
-        requires { is_line_at stim.now (stim_line self.line) 3 ≡ true }
-        ensures { result ≡ step_at stim.now self.line }
+    #[tactic(auto, using(crate::proofs::Judging::ended, crate::proofs::Steps::before_end, crate::proofs::Steps::cursor_fits))]
+    pub fn next(self) -> Option<(Line, Cursor<'a>)>
+        ensures { StepAt self.entry result }
     {
-        let here = self.here(stim);
+        let here = self.here();
         if here.is_end() {
             return None;
         }
         let after = Cursor {
+            stimulus: self.stimulus,
             line: self.line + 1,
         };
         Some((here, after))
     }
 
-    // The same, where the line is of a time; none at a line of another time, too.
-    pub fn next_of(self, stim: &[u8], time: Cycle) -> Option<(Line, Cursor)>
-        requires { is_line_at stim.now (stim_line self.line) 3 ≡ true }
-        ensures { result ≡ step_of stim.now time.0 self.line }
+    // The same, where the line is of a time; none at a line of another time, too. Who takes the lines of a time does so by `while let`: the
+    // cursor behind them is what they leave, and a `for` over an iterator would consume it.
+    #[tactic(auto, using(crate::proofs::Steps::step_filtered))]
+    pub fn next_of(self, time: Cycle) -> Option<(Line, Cursor<'a>)>
+        ensures { StepOf self.entry time.0 result }
     {
-        self.next(stim).filter(|(line, _)| line.time.0 == time.0)
+        self.next().filter(|(line, _)| line.time == time)
     }
 }

@@ -1,5 +1,6 @@
 // Four-valued gates: translations, functions, and the gate g5(f(g1(a1), g2(a2), g3(a3), g4(a4))). All are taken from tables.
-// Codes of a value: 0, 1, 2 (U, undefined), 3 (Z, floating).
+// Codes of a value: 0, 1, 2 (U, undefined), 3 (Z, floating). Values and codes are bytes, as C's buffers have them and as they index the
+// tables; no enum is made of them.
 
 #![tactic(auto)]
 
@@ -13,7 +14,8 @@ ghost use Rattle.gates.specs.Table.{FunctionTable, TranslationTable, GateTables}
 
 mod table;
 
-// The codes of a gate: its function and its translations.
+// The codes of a gate, its function and its translations, by the names of the formula g5(f(g1(a1), g2(a2), g3(a3), g4(a4))): in an array
+// they would have numbers in place of these names.
 #[derive(Drop)]
 pub struct Gate {
     pub f: u8,
@@ -24,7 +26,7 @@ pub struct Gate {
     pub g5: u8,
 }
 
-// The code of a function that is supplied.
+// The code of a function that is supplied. This test and the next two differ in a limit alone, and have each the name of its definition.
 #[tactic(auto, unfolding(crate::specs::Function::is_function))]
 pub fn is_function(code: u16) -> bool
     ensures { result ≡ is_function code }

@@ -1,3 +1,4 @@
+pub mod Unmarked
 pub mod Pushing
 pub mod Searching
 pub mod Loops

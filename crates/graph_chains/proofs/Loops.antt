@@ -1,7 +1,7 @@
 -- A node that has a rank is on no loop, since ranks rise along edges; and one that is not followed is on none, since it feeds nothing.
 use Prim.Native.Nat.{ℕ, ◌+◌, ◌≤◌, ◌<◌}
-use mathlib.Core.Path.{◌≡◌, sym, subst}
-use mathlib.Core.Bool.{false, true≢false}
+use mathlib.Core.Path.{◌≡◌, sym, subst, ◌∙◌}
+use mathlib.Core.Bool.{Bool, true, false, true≢false}
 use mathlib.Core.List.{List}
 use native.Mathlib.Omega.{arith}
 use Rattle.std.specs.Prelude.{Option, Some, None, MatchOption}
@@ -10,7 +10,7 @@ use Rattle.graph_ranks.specs.Graph.{Edge, Path, one, more, Loops, IsGraph, Decid
 use Rattle.graph_ranks.specs.Ranks.{highest, RanksRight}
 use Rattle.graph_ranks.proofs.Ranking.{highest_above}
 
-module _ {follow edges : List ℕ} {size : ℕ} {ranks : List ℕ} (r : RanksRight follow edges size ranks) where
+module _ {follow : List Bool} {edges : List ℕ} {size : ℕ} {ranks : List ℕ} (r : RanksRight follow edges size ranks) where
   -- the rank rises along an edge
   pub edge_rises : {x y : ℕ} → 1 ≤ get_or ranks y 0 → Edge edges x y → get_or ranks x 0 < get_or ranks y 0
   edge_rises {x} {y} l e =
@@ -26,7 +26,7 @@ module _ {follow edges : List ℕ} {size : ℕ} {ranks : List ℕ} (r : RanksRig
   ranked_no_loop s l p = omega (arith, path_rises l p)
 
 -- what a path begins with feeds
-path_followed : {follow edges : List ℕ} {size : ℕ} → IsGraph follow edges size → {a b : ℕ} → Path edges a b → get_or follow a 0 ≡ 1
+path_followed : {follow : List Bool} {edges : List ℕ} {size : ℕ} → IsGraph follow edges size → {a b : ℕ} → Path edges a b → get_or follow a false ≡ true
 path_followed g {a} {b} (one e) = g.feeders a b e
 path_followed g (more p e) = path_followed g p
 
@@ -34,13 +34,13 @@ path_followed g (more p e) = path_followed g p
 no_loop : {edges : List ℕ} {s : ℕ} → (Loops edges s → ⊥) → Decides (Loops edges s) false
 no_loop n = record { holds = λ e. absurd (true≢false (sym e)); fails = λ _. n }
 
-pub ranked_tells : {follow edges : List ℕ} {size : ℕ} {ranks : List ℕ} → RanksRight follow edges size ranks
+pub ranked_tells : {follow : List Bool} {edges : List ℕ} {size : ℕ} {ranks : List ℕ} → RanksRight follow edges size ranks
     → (s : ℕ) → (get_or ranks s 0 ≡ 0 → ⊥) → Decides (Loops edges s) false
 ranked_tells r s n = no_loop (ranked_no_loop r s (omega arith))
 
-pub unfollowed_tells : {follow edges : List ℕ} {size : ℕ} → IsGraph follow edges size
-    → (s : ℕ) → (get_or follow s 0 ≡ 1 → ⊥) → Decides (Loops edges s) false
-unfollowed_tells g s n = no_loop (λ p. n (path_followed g p))
+pub unfollowed_tells : {follow : List Bool} {edges : List ℕ} {size : ℕ} → IsGraph follow edges size
+    → (s : ℕ) → get_or follow s false ≡ false → Decides (Loops edges s) false
+unfollowed_tells g s e = no_loop (λ p. true≢false (sym (path_followed g p) ∙ e))
 
 -- the first of 1 to size that is on a loop
 pub first_found : (edges : List ℕ) (size : ℕ) (r : Option ℕ)

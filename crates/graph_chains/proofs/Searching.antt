@@ -1,21 +1,19 @@
 -- A search back from s: what is marked leads to s, and what is marked, or is s, has all its feeders marked or stands on the stack. So
 -- when the stack is empty, s is marked exactly when it is on a loop.
 use Prim.Native.Nat.{ℕ, zero, suc, ◌+◌, ◌*◌, ◌≤◌, ◌<◌}
-use mathlib.Core.Path.{◌≡◌, refl, sym, subst, ap}
-use mathlib.Core.Bool.{not}
+use mathlib.Core.Path.{◌≡◌, refl, sym, subst, ap, ◌∙◌}
+use mathlib.Core.Bool.{Bool, true, false, true≢false}
 use mathlib.Core.List.{List, [], ◌∷◌}
 use mathlib.Core.Logic.{◌⊎◌, inl, inr, ⊎_elim}
 use native.Mathlib.Omega.{arith}
 use native.Mathlib.Nat.{eq-or-lt_of_le}
 use lib.ListN.{length, get_or, set, replicate, length-replicate}
-use lib.Dec.{eqb}
-use borrow.Author.Tests.{eqb-true, eqb-false, not-true, not-false}
 use lib.Seq.{get_or-set_same, get_or-set_other}
 use Rattle.graph_ranks.specs.Graph.{places, Entries, Edge, Path, one, more, Loops, Decides}
 use Rattle.graph_chains.specs.Search.{State, state, blank, Room, pushed, pushed_to, pushed_all}
-use Rattle.graph_ranks.proofs.Zeros.{zeros_length}
-use Rattle.graph_ranks.proofs.Stores.{equal_or_not, read_cases, all_zero}
-use Rattle.graph_chains.proofs.Pushing.{stacked, push_cases, stack_room, push_room, mark_stays, push_stays, push_marks, left_over, push_less}
+use Rattle.graph_ranks.proofs.Stores.{equal_or_not, read_cases, all_same}
+use Rattle.graph_chains.proofs.Unmarked.{unmarked_length}
+use Rattle.graph_chains.proofs.Pushing.{Marked, Bare, stacked, push_cases, stack_room, push_room, mark_stays, push_stays, push_marks, left_over, push_less}
 
 -- an edge before a path
 pub edge_path : {edges : List ℕ} {x y s : ℕ} → Edge edges x y → Path edges y s → Path edges x s
@@ -28,8 +26,8 @@ path_real (one e) = e.real
 path_real (more p e) = path_real p
 
 -- each feeder of y has a mark
-abbrev pub Closed : List ℕ → List ℕ → ℕ → Type 0
-Closed edges marks y = (x : ℕ) → Edge edges x y → 1 ≤ get_or marks x 0
+abbrev pub Closed : List ℕ → List Bool → ℕ → Type 0
+Closed edges marks y = (x : ℕ) → Edge edges x y → Marked marks x
 
 -- x stands on the stack
 abbrev pub On : ℕ → List ℕ → Type 0
@@ -39,15 +37,15 @@ On x (v ∷ stack) = (x ≡ v) ⊎ On x stack
 -- a search back from s in which y alone may have feeders that are left out (none, where y is 0)
 pub record Searching (edges : List ℕ) (size s y : ℕ) (at : State) : Type 0 where
   pub room : Room at
-  pub sound : (x : ℕ) → 1 ≤ get_or at.marks x 0 → Path edges x s
-  pub stacked : (x : ℕ) → On x at.stack → (1 ≤ get_or at.marks x 0) × (x ≤ size)
-  pub closed : (z : ℕ) → 1 ≤ z → (z ≡ y → ⊥) → (z ≡ s) ⊎ (1 ≤ get_or at.marks z 0)
+  pub sound : (x : ℕ) → Marked at.marks x → Path edges x s
+  pub stacked : (x : ℕ) → On x at.stack → Marked at.marks x × (x ≤ size)
+  pub closed : (z : ℕ) → 1 ≤ z → (z ≡ y → ⊥) → (z ≡ s) ⊎ Marked at.marks z
       → Closed edges at.marks z ⊎ On z at.stack
 
 pub blank_room : Room blank
 blank_room =
-    let long : length (replicate {A = ℕ} places 0) ≡ places = length-replicate {A = ℕ} places 0 in
-    record { marks_long = long; left = omega (arith, zeros_length (replicate places 0), long) }
+    let long : length (replicate {A = Bool} places false) ≡ places = length-replicate {A = Bool} places false in
+    record { marks_long = long; left = omega (arith, unmarked_length (replicate places false), long) }
 
 -- at the start nothing is marked, and s has all its feeders left out
 search_start : (edges : List ℕ) (size s : ℕ) → Searching edges size s s blank
@@ -58,10 +56,10 @@ search_start edges size s = record {
   closed = λ z real other due. absurd (⊎_elim other (none z) due);
 }
   where
-    none : (x : ℕ) → 1 ≤ get_or blank.marks x 0 → ⊥
-    none x m = omega (arith, all_zero places x)
+    none : (x : ℕ) → Marked blank.marks x → ⊥
+    none x m = true≢false (sym m ∙ all_same false places x)
 
-pub pop_room : (marks stack : List ℕ) (v : ℕ) → Room (state marks (v ∷ stack)) → Room (state marks stack)
+pub pop_room : (marks : List Bool) (stack : List ℕ) (v : ℕ) → Room (state marks (v ∷ stack)) → Room (state marks stack)
 pop_room marks stack v r = record { marks_long = r.marks_long; left = omega (arith, r.left) }
 
 -- the top of the stack is a node
@@ -73,13 +71,13 @@ module _ (edges : List ℕ) (size s y : ℕ) where
       → Searching edges size s y (pushed at x)
   search_push at x h l path i = push_cases (Searching edges size s y) at x (λ _. i) (λ _. i) new
     where
-      new : 1 ≤ x → get_or at.marks x 0 ≡ 0 → Searching edges size s y (stacked at x)
+      new : 1 ≤ x → Bare at.marks x → Searching edges size s y (stacked at x)
       new real e = record {
         room = stack_room at x h i.room e;
-        sound = λ z. read_cases (λ w v. 1 ≤ v → Path edges w s) at.marks x 1 low (λ _. path real) z (λ _. i.sound z);
+        sound = λ z. read_cases (λ w v. v ≡ true → Path edges w s) at.marks x true false low (λ _. path real) z (λ _. i.sound z);
         stacked = λ z.
             ⊎_elim
-            (λ same. (subst (λ (w : ℕ). 1 ≤ get_or (set at.marks x 1) w 0) (sym same) here, omega (arith, same)))
+            (λ same. (subst (Marked (set at.marks x true)) (sym same) here, omega (arith, same)))
             (λ on. let was = i.stacked z on in (mark_stays at.marks x z low was.0, was.1));
         closed = λ z r other due.
             ⊎_elim
@@ -95,15 +93,15 @@ module _ (edges : List ℕ) (size s y : ℕ) where
           low : x < length at.marks
           low = omega (arith, i.room.marks_long)
 
-          was : (z : ℕ) → (z ≡ x → ⊥) → (z ≡ s) ⊎ (1 ≤ get_or (set at.marks x 1) z 0) → (z ≡ s) ⊎ (1 ≤ get_or at.marks z 0)
+          was : (z : ℕ) → (z ≡ x → ⊥) → (z ≡ s) ⊎ Marked (set at.marks x true) z → (z ≡ s) ⊎ Marked at.marks z
           was z old =
-              ⊎_elim inl (λ m. inr (subst (λ (v : ℕ). 1 ≤ v) (get_or-set_other at.marks x z 1 0 old) m))
+              ⊎_elim inl (λ m. inr (sym (get_or-set_other at.marks x z true false old) ∙ m))
 
-          here : 1 ≤ get_or (set at.marks x 1) x 0
-          here = omega (arith, get_or-set_same at.marks x 1 0 low)
+          here : Marked (set at.marks x true) x
+          here = get_or-set_same at.marks x true false low
 
   -- y is taken off the stack
-  search_pop : (marks stack : List ℕ) → Searching edges size s 0 (state marks (y ∷ stack)) → Searching edges size s y (state marks stack)
+  search_pop : (marks : List Bool) (stack : List ℕ) → Searching edges size s 0 (state marks (y ∷ stack)) → Searching edges size s y (state marks stack)
   search_pop marks stack i = record {
     room = pop_room marks stack y i.room;
     sound = i.sound;
@@ -134,13 +132,13 @@ module _ (edges : List ℕ) (size : ℕ) (all : Entries edges size) (at : State)
       )
 
   to_marks : (j : ℕ) → Room at → (k : ℕ) → k < j → 1 ≤ get_or edges (4 * y + k) 0
-      → 1 ≤ get_or (pushed_to edges at y j).marks (get_or edges (4 * y + k) 0) 0
+      → Marked (pushed_to edges at y j).marks (get_or edges (4 * y + k) 0)
   unfolding pushed_to
   to_marks zero r k h l = absurd (omega arith)
   to_marks (suc j) r k h l =
       ⊎_elim
       (λ e.
-      subst (λ (i : ℕ). 1 ≤ get_or (pushed now x).marks (get_or edges (4 * y + i) 0) 0) (sym e)
+      subst (λ (i : ℕ). Marked (pushed now x).marks (get_or edges (4 * y + i) 0)) (sym e)
       (push_marks now x (low_feeder (4 * y + j)) (to_room j r) (subst (λ (i : ℕ). 1 ≤ get_or edges (4 * y + i) 0) e l)))
       (λ (before : k < j).
       push_stays now x (get_or edges (4 * y + k) 0) (low_feeder (4 * y + j)) (to_room j r) (to_marks j r k before l))
@@ -183,7 +181,7 @@ module _ (edges : List ℕ) (size : ℕ) (all : Entries edges size) (at : State)
       mark : (z : ℕ) → z ≡ y → Closed edges (pushed_all edges at y).marks z
       mark z same x e =
           let is : get_or edges (4 * y + e.index) 0 ≡ x = subst (λ (w : ℕ). get_or edges (4 * w + e.index) 0 ≡ x) same e.is_entry in
-          subst (λ (w : ℕ). 1 ≤ get_or (pushed_all edges at y).marks w 0) is
+          subst (Marked (pushed_all edges at y).marks) is
           (to_marks 4 i.room e.index e.small (omega (arith, e.real, is)))
 
 -- the turns of the search
@@ -192,7 +190,7 @@ module _ (edges : List ℕ) (size : ℕ) (all : Entries edges size) (s : ℕ) wh
   first_turn b e =
       subst (Searching edges size s 0) (sym e) (search_all edges size all blank s s (inl refl) (search_start edges size s))
 
-  pub next_turn : (marks stack rest : List ℕ) (v : ℕ) (b : State) → stack ≡ v ∷ rest → Searching edges size s 0 (state marks stack)
+  pub next_turn : (marks : List Bool) (stack rest : List ℕ) (v : ℕ) (b : State) → stack ≡ v ∷ rest → Searching edges size s 0 (state marks stack)
       → b ≡ pushed_all edges (state marks rest) v → Searching edges size s 0 b
   next_turn marks stack rest v b e i p =
       let here : Searching edges size s 0 (state marks (v ∷ rest)) = subst (λ (l : List ℕ). Searching edges size s 0 (state marks l)) e i in
@@ -201,7 +199,7 @@ module _ (edges : List ℕ) (size : ℕ) (all : Entries edges size) (s : ℕ) wh
       (inr (i.sound v (here.stacked v (inl refl)).0))
       (search_pop edges size s v marks rest here))
 
-  pub turn_less : (marks stack rest : List ℕ) (v : ℕ) (b : State) → stack ≡ v ∷ rest → Room (state marks stack)
+  pub turn_less : (marks : List Bool) (stack rest : List ℕ) (v : ℕ) (b : State) → stack ≡ v ∷ rest → Room (state marks stack)
       → b ≡ pushed_all edges (state marks rest) v → left_over b < left_over (state marks stack)
   turn_less marks stack rest v b e r p =
       let room = pop_room marks rest v (subst (λ (l : List ℕ). Room (state marks l)) e r) in
@@ -209,21 +207,14 @@ module _ (edges : List ℕ) (size : ℕ) (all : Entries edges size) (s : ℕ) wh
 
 -- the search is over
 module _ (edges : List ℕ) (size s : ℕ) (at : State) (i : Searching edges size s 0 at) (empty : at.stack ≡ []) where
-  closed_at_last : (z : ℕ) → 1 ≤ z → (z ≡ s) ⊎ (1 ≤ get_or at.marks z 0) → Closed edges at.marks z
+  closed_at_last : (z : ℕ) → 1 ≤ z → (z ≡ s) ⊎ Marked at.marks z → Closed edges at.marks z
   closed_at_last z real due =
       ⊎_elim (λ c. c) (λ on. absurd (subst (On z) empty on))
       (i.closed z real (λ (n : z ≡ 0). omega arith) due)
 
-  reached : {a b : ℕ} → 1 ≤ b → (b ≡ s) ⊎ (1 ≤ get_or at.marks b 0) → Path edges a b → 1 ≤ get_or at.marks a 0
+  reached : {a b : ℕ} → 1 ≤ b → (b ≡ s) ⊎ Marked at.marks b → Path edges a b → Marked at.marks a
   reached {a} {b} real due (one e) = closed_at_last b real due a e
   reached {a} {b} real due (more {b = m} p e) = reached e.real (inr (closed_at_last b real due m e)) p
 
-  pub search_tells : Decides (Loops edges s) (not (eqb (get_or at.marks s 0) 0))
-  search_tells = record {
-    holds = λ e.
-        let marked = eqb-false (get_or at.marks s 0) 0 (not-true (eqb (get_or at.marks s 0) 0) e) in
-        i.sound s (omega arith);
-    fails = λ e p.
-        let unmarked = eqb-true (get_or at.marks s 0) 0 (not-false (eqb (get_or at.marks s 0) 0) e) in
-        omega (arith, reached (path_real p) (inl refl) p);
-  }
+  pub search_tells : Decides (Loops edges s) (get_or at.marks s false)
+  search_tells = record { holds = i.sound s; fails = λ e p. true≢false (sym (reached (path_real p) (inl refl) p) ∙ e) }

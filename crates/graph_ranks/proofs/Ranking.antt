@@ -1,6 +1,7 @@
 -- The rank that a node gets is the right one, and where it gets none it has a feeder without one.
 use Prim.Native.Nat.{ℕ, zero, suc, ◌+◌, ◌*◌, ◌≤◌, ◌<◌, max}
 use mathlib.Core.Path.{◌≡◌, refl, sym, subst, ap, ap₂, ◌∙◌}
+use mathlib.Core.Bool.{Bool}
 use mathlib.Core.List.{List}
 use mathlib.Core.Logic.{◌⊎◌, inl, inr, ⊎_elim}
 use native.Mathlib.Omega.{arith}
@@ -73,7 +74,7 @@ module _ (edges ranks : List ℕ) (y : ℕ) where
       ap₂ max (highest_kept v h j (λ k l. none k (omega arith))) (get_or-set_other ranks v (entry j) h 0 (none j (omega arith)))
 
 -- ranks so far
-module _ {follow edges : List ℕ} {size : ℕ} {ranks : List ℕ} where
+module _ {follow : List Bool} {edges : List ℕ} {size : ℕ} {ranks : List ℕ} where
   -- nothing stands at 0, which is no node
   pub ground : RanksRight follow edges size ranks → get_or ranks 0 0 ≡ 0
   ground r = r.others 0 (λ (f : Followed follow size 0). omega (arith, f.low))
@@ -91,7 +92,7 @@ module _ {follow edges : List ℕ} {size : ℕ} {ranks : List ℕ} where
     inside = omega (arith, s.long, followed.high)
 
     stays : (x : ℕ) → 1 ≤ get_or ranks x 0 → 1 ≤ get_or (set ranks y h) x 0
-    stays x l = read_cases (λ _ v. 1 ≤ v) ranks y h inside real x (λ _. l)
+    stays x l = read_cases (λ _ v. 1 ≤ v) ranks y h 0 inside real x (λ _. l)
 
     -- the feeders of a node that has a rank, or of y, have ranks, and y has none
     fed : (z : ℕ) → (z ≡ y) ⊎ (1 ≤ get_or ranks z 0) → (x : ℕ) → Edge edges x z → 1 ≤ get_or ranks x 0
@@ -108,7 +109,7 @@ module _ {follow edges : List ℕ} {size : ℕ} {ranks : List ℕ} where
         omega (arith, fed z due y (record { real = followed.low; index = k; small = l; is_entry = e }))
 
     ranked_due : (z : ℕ) → 1 ≤ get_or (set ranks y h) z 0 → (z ≡ y) ⊎ (1 ≤ get_or ranks z 0)
-    ranked_due z = read_cases (λ w v. 1 ≤ v → (w ≡ y) ⊎ (1 ≤ get_or ranks w 0)) ranks y h inside (λ _. inl refl) z (λ _ l. inr l)
+    ranked_due z = read_cases (λ w v. 1 ≤ v → (w ≡ y) ⊎ (1 ≤ get_or ranks w 0)) ranks y h 0 inside (λ _. inl refl) z (λ _ l. inr l)
 
     store_right : RanksRight follow edges size (set ranks y h)
     store_right = record {
@@ -116,7 +117,7 @@ module _ {follow edges : List ℕ} {size : ℕ} {ranks : List ℕ} where
           get_or-set_other ranks y z h 0 (λ q. out (subst (Followed follow size) (sym q) followed)) ∙ s.right.others z out;
       grounded = λ x z l e. stays x (fed z (ranked_due z l) x e);
       exact = λ z.
-          read_cases (λ w v. 1 ≤ v → v ≡ highest edges (set ranks y h) w + 1) ranks y h inside
+          read_cases (λ w v. 1 ≤ v → v ≡ highest edges (set ranks y h) w + 1) ranks y h 0 inside
           (λ _. omega (arith, above.is, highest_kept edges ranks y y h 4 (not_fed y (inl refl))))
           z
           (λ _ l. omega (arith, s.right.exact z l, highest_kept edges ranks z y h 4 (not_fed z (inr l))));
@@ -129,7 +130,7 @@ module _ {follow edges : List ℕ} {size : ℕ} {ranks : List ℕ} where
           long = length-set ranks y h ∙ s.long;
           right = store_right;
           few = λ z.
-              read_cases (λ _ v. v + zeros (set ranks y h) ≤ places) ranks y h inside
+              read_cases (λ _ v. v + zeros (set ranks y h) ≤ places) ranks y h 0 inside
               (omega (arith, above.is, highest_low edges ranks y places (zeros ranks) (omega (arith, zeros_length ranks, s.long)) s.few 4))
               z
               (λ _. omega (arith, s.few z));

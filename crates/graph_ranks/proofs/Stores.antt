@@ -1,13 +1,16 @@
--- What is read after a store, and from a list of zeros.
-use Prim.Native.Nat.{ℕ, zero, suc, ◌<◌}
+-- What is read after a store, from a list of one value, and how a store changes a count.
+use Prim.Native.Nat.{ℕ, zero, suc, ◌+◌, ◌<◌}
 use mathlib.Core.Path.{◌≡◌, refl, sym, subst}
 use mathlib.Core.Bool.{Bool, true, false}
 use mathlib.Core.List.{List}
 use mathlib.Core.Logic.{◌⊎◌, inl, inr, ⊎_elim}
+use native.Mathlib.Omega.{arith}
 use lib.Dec.{eqb}
 use lib.ListN.{length, get_or, set, replicate}
 use lib.Seq.{get_or-set_same, get_or-set_other}
 use borrow.Author.Tests.{eqb-true, eqb-false}
+use Rattle.logic.specs.Test.{count}
+use Rattle.logic.proofs.Counts.{count_set}
 
 pub equal_or_not : (a b : ℕ) → (a ≡ b) ⊎ (a ≡ b → ⊥)
 equal_or_not a b = go (eqb a b) refl
@@ -17,15 +20,22 @@ equal_or_not a b = go (eqb a b) refl
     go false e = inr (eqb-false a b e)
 
 -- the new element at the place of the store, the old one elsewhere
-pub read_cases : (P : ℕ → ℕ → Type 0) (l : List ℕ) (i v : ℕ) → i < length l → P i v
-    → (j : ℕ) → ((j ≡ i → ⊥) → P j (get_or l j 0)) → P j (get_or (set l i v) j 0)
-read_cases P l i v h new j old =
+pub read_cases : {A : Type 0} (P : ℕ → A → Type 0) (l : List A) (i : ℕ) (v d : A) → i < length l → P i v
+    → (j : ℕ) → ((j ≡ i → ⊥) → P j (get_or l j d)) → P j (get_or (set l i v) j d)
+read_cases P l i v d h new j old =
     ⊎_elim
-    (λ e. subst (λ (k : ℕ). P k (get_or (set l i v) k 0)) (sym e) (subst (P i) (sym (get_or-set_same l i v 0 h)) new))
-    (λ e. subst (P j) (sym (get_or-set_other l i j v 0 e)) (old e))
+    (λ e. subst (λ (k : ℕ). P k (get_or (set l i v) k d)) (sym e) (subst (P i) (sym (get_or-set_same l i v d h)) new))
+    (λ e. subst (P j) (sym (get_or-set_other l i j v d e)) (old e))
     (equal_or_not j i)
 
-pub all_zero : (n i : ℕ) → ◌≡◌ {A = ℕ} (get_or (replicate n 0) i 0) 0
-all_zero zero i = refl
-all_zero (suc n) zero = refl
-all_zero (suc n) (suc i) = all_zero n i
+pub all_same : {A : Type 0} (a : A) (n i : ℕ) → get_or (replicate n a) i a ≡ a
+all_same a zero i = refl
+all_same a (suc n) zero = refl
+all_same a (suc n) (suc i) = all_same a n i
+
+-- an element that passes gives way to one that does not
+pub count_filled : {A : Type 0} (p : A → Bool) (l : List A) (i : ℕ) (v d : A) → i < length l → p (get_or l i d) ≡ true → p v ≡ false
+    → count p (set l i v) + 1 ≡ count p l
+count_filled p l i v d h old new =
+    let law = count_set p l i v d h in
+    omega (arith, rw (old, new) at law)

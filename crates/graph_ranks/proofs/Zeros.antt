@@ -7,8 +7,9 @@ use lib.Dec.{eqb}
 use lib.ListN.{length, get_or, set}
 use borrow.Author.Tests.{eq-eqb, ne_eqb}
 use Rattle.logic.proofs.Tests.{count_length}
-use Rattle.logic.proofs.Counts.{count_set, count_at}
+use Rattle.logic.proofs.Counts.{count_at}
 use Rattle.graph_ranks.specs.Zeros.{zeros}
+use Rattle.graph_ranks.proofs.Stores.{count_filled}
 
 pub zeros_length : (l : List ℕ) → zeros l ≤ length l
 unfolding zeros
@@ -23,7 +24,4 @@ zeros_at l i h e = count_at (λ (x : ℕ). eqb x 0) l i 0 h (eq-eqb (get_or l i 
 pub zeros_filled : (l : List ℕ) (i v : ℕ) → i < length l → get_or l i 0 ≡ 0 → 1 ≤ v → zeros (set l i v) + 1 ≡ zeros l
 unfolding zeros
 zeros_filled l i v h e k =
-    let law = count_set (λ (x : ℕ). eqb x 0) l i v 0 h in
-    let old = eq-eqb (get_or l i 0) 0 e in
-    let new = ne_eqb v 0 (λ (q : v ≡ 0). omega arith) in
-    omega (arith, rw (old, new) at law)
+    count_filled (λ (x : ℕ). eqb x 0) l i v 0 h (eq-eqb (get_or l i 0) 0 e) (ne_eqb v 0 (λ (q : v ≡ 0). omega arith))

@@ -26,10 +26,10 @@ abbrev pub Loops : List ℕ → ℕ → Type 0
 Loops edges s = Path edges s s
 
 -- y is a node of 1 to size that is followed: its rank is asked for
-pub record Followed (follow : List ℕ) (size y : ℕ) : Type 0 where
+pub record Followed (follow : List Bool) (size y : ℕ) : Type 0 where
   pub low : 1 ≤ y
   pub high : y ≤ size
-  pub chosen : get_or follow y 0 ≡ 1
+  pub chosen : get_or follow y false ≡ true
 
 -- the entries of a graph of `size` nodes: each names a node or none
 pub record Entries (edges : List ℕ) (size : ℕ) : Type 0 where
@@ -38,10 +38,10 @@ pub record Entries (edges : List ℕ) (size : ℕ) : Type 0 where
   pub within : (i : ℕ) → get_or edges i 0 ≤ size
 
 -- a graph of `size` nodes, in which only nodes that are followed feed others
-pub record IsGraph (follow edges : List ℕ) (size : ℕ) : Type 0 where
+pub record IsGraph (follow : List Bool) (edges : List ℕ) (size : ℕ) : Type 0 where
   pub each : Entries edges size
   pub long : length follow ≡ places
-  pub feeders : (x y : ℕ) → Edge edges x y → get_or follow x 0 ≡ 1
+  pub feeders : (x y : ℕ) → Edge edges x y → get_or follow x false ≡ true
 
 -- the answer is true exactly when P holds
 pub record Decides (P : Type 0) (answer : Bool) : Type 0 where

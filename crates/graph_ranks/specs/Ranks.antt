@@ -1,5 +1,5 @@
 -- Ranks: how far each followed node stands above the nodes that nothing feeds.
-use Rattle.std.specs.Prelude.{ℕ, zero, suc, ◌+◌, ◌*◌, ◌≤◌, ◌<◌, max, ◌≡◌, List, get_or}
+use Rattle.std.specs.Prelude.{ℕ, zero, suc, ◌+◌, ◌*◌, ◌≤◌, ◌<◌, max, ◌≡◌, Bool, List, get_or}
 use Rattle.graph_ranks.specs.Graph.{places, Edge, Followed}
 
 -- the highest rank among the first j feeders of y; an entry 0 is no feeder, and what stands at 0 is 0
@@ -14,7 +14,7 @@ highest edges ranks y = highest_to edges ranks y 4
 -- What has a rank (not 0) has the right one.
 -- others: what is not followed has none. grounded: the feeders of a node that has one have one.
 -- exact: it is one more than the highest of the feeders', 1 where there is no feeder.
-pub record RanksRight (follow edges : List ℕ) (size : ℕ) (ranks : List ℕ) : Type 0 where
+pub record RanksRight (follow : List Bool) (edges : List ℕ) (size : ℕ) (ranks : List ℕ) : Type 0 where
   pub others : (y : ℕ) → (Followed follow size y → ⊥) → get_or ranks y 0 ≡ 0
   pub grounded : (x y : ℕ) → 1 ≤ get_or ranks y 0 → Edge edges x y → 1 ≤ get_or ranks x 0
   pub exact : (y : ℕ) → 1 ≤ get_or ranks y 0 → get_or ranks y 0 ≡ highest edges ranks y + 1
@@ -37,7 +37,7 @@ pub record OpenFeeder (edges ranks : List ℕ) (y : ℕ) : Type 0 where
 
 -- Every node is ranked that can be.
 -- rest: a followed node that has no rank has a feeder that has none. small: ranks are at most 4096.
-pub record Ranked (follow edges : List ℕ) (size : ℕ) (ranks : List ℕ) : Type 0 where
+pub record Ranked (follow : List Bool) (edges : List ℕ) (size : ℕ) (ranks : List ℕ) : Type 0 where
   pub right : RanksRight follow edges size ranks
   pub rest : (y : ℕ) → Followed follow size y → get_or ranks y 0 ≡ 0 → OpenFeeder edges ranks y
   pub small : (y : ℕ) → get_or ranks y 0 < places

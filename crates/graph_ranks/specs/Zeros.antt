@@ -1,4 +1,4 @@
--- How many elements of a list are 0: the nodes that are not marked yet, or not ranked yet.
+-- How many elements of a list are 0: the nodes that are not ranked yet.
 use Rattle.std.specs.Prelude.{ℕ, List, eqb}
 use Rattle.logic.specs.Test.{count}
 

@@ -22,12 +22,12 @@ const STEPS: usize = 12288;
 
 const WAY: usize = 16384;
 
-// A graph of the nodes 1 to `size`: those that are followed are marked with 1, and the edges are four entries a node.
+// A graph of the nodes 1 to `size`: those that are followed are marked, and the edges are four entries a node.
 #[derive(Clone, Copy)]
 pub struct Graph<'a> {
-    pub follow: &'a [u8; PLACES],
+    pub follow: &'a [bool; PLACES],
     pub edges: &'a [u16; ENTRIES],
-    pub size: usize,
+    pub size: u16,
     pub ghost is_graph: { IsGraph follow.now edges.now size },
 }
 
@@ -36,18 +36,19 @@ impl<'a> Graph<'a> {
 
     // The feeder that entry j of the node names, or 0 for none, as the entry has it: an Option would be made here and taken
     // apart at once, and no caller would lose its test.
-    pub fn feeder(&self, node: usize, j: usize) -> u16
+    pub fn feeder(&self, node: u16, j: usize) -> u16
         requires within { (node ≤ self.now.size) × (j < 4) }
         ensures named { result ≡ get_or self.now.edges.now (4 * node + j) 0 }
         ensures node_or_none { result ≤ self.now.size }
     {
-        self.edges[4 * node + j]
+        self.edges[4 * usize::from(node) + j]
     }
 
     // The rank above the feeders of the node, where each has one. What holds of the ranks so far is asked of each caller: they are lent,
-    // and change from call to call.
+    // and change from call to call. A loop with a skip and a way out: `try_fold` would make an Option a turn for the rank
+    // so far, and skip by giving it back.
     #[tactic(auto, using(crate::proofs::Ranking::ground, crate::proofs::Ranking::above_start, crate::proofs::Ranking::above_none, crate::proofs::Ranking::above_more))]
-    fn rank_above(&self, ranks: &[u16; PLACES], node: usize) -> Option<u16>
+    fn rank_above(&self, ranks: &[u16; PLACES], node: u16) -> Option<u16>
         requires ranked_so_far { SomeRanked self.now ranks.now }
         requires node_le_size { node ≤ self.now.size }
         ensures { MatchOption result (OpenFeeder self.now.edges.now ranks.now node) (RankAbove self.now.edges.now ranks.now node 4) }
@@ -68,18 +69,19 @@ impl<'a> Graph<'a> {
     }
 
     // The node is visited: it gets its rank, if it is followed, has none yet, and each of its feeders has one. Did it?
-    fn visit(&self, ranks: &mut [u16; PLACES], node: usize) -> bool
+    fn visit(&self, ranks: &mut [u16; PLACES], node: u16) -> bool
         requires ranked_so_far { SomeRanked self.now ranks.old }
         requires is_node { (1 ≤ node) × (node ≤ self.now.size) }
         ensures { Visited self.now node ranks.old ranks.new result }
     {
-        if ranks[node] != 0 || self.follow[node] != 1 {
+        let place = usize::from(node);
+        if ranks[place] != 0 || !self.follow[place] {
             return false;
         }
         let Some(rank) = self.rank_above(ranks, node) else {
             return false;
         };
-        ranks[node] = rank;
+        ranks[place] = rank;
         true
     }
 
@@ -98,17 +100,13 @@ impl<'a> Graph<'a> {
     }
 
     // A feeder of the node that has no rank.
-    fn open_feeder(&self, ranks: &[u16; PLACES], node: usize) -> Option<u16>
+    fn open_feeder(&self, ranks: &[u16; PLACES], node: u16) -> Option<u16>
         requires node_le_size { node ≤ self.now.size }
         ensures { MatchOption result (OpenFeeder self.now.edges.now ranks.now node → ⊥) (OpenAt self.now.edges.now ranks.now node) }
     {
-        for j in 0..4 {
-            let feeder = self.feeder(node, j);
-            if feeder != 0 && ranks[usize::from(feeder)] == 0 {
-                return Some(feeder);
-            }
-        }
-        None
+        (0..4)
+            .map(|j| self.feeder(node, j))
+            .find(|&feeder| feeder != 0 && ranks[usize::from(feeder)] == 0)
     }
 
     // A step of the descent: from the node that stood on top of the way to a feeder that has no rank, or, where each has
@@ -120,24 +118,23 @@ impl<'a> Graph<'a> {
         requires room { length way.old + 2 ≤ 16384 }
         ensures { Descended self.now ranks.new way.old way.new }
     {
-        let open = self.open_feeder(ranks, usize::from(node));
+        let open = self.open_feeder(ranks, node);
         if let Some(feeder) = open {
             way.push(node);
             way.push(feeder);
         } else {
-            self.visit(ranks, usize::from(node));
+            self.visit(ranks, node);
         }
     }
 
     // The nodes 1 to size stand on the way.
-    // By `as`, in this file, where the bound is proved: no `From` has this conversion, and `TryFrom` has an error that cannot happen.
     #[tactic(auto, using(crate::proofs::Descending::length_lined_up))]
     fn line_up(&self, way: &mut Stack<WAY>)
         requires { way.old ≡ [] }
         ensures { way.new ≡ lined_up self.now.size }
     {
         for node in 1..=self.size {
-            way.push(node as u16);
+            way.push(node);
         }
     }
 
@@ -159,8 +156,8 @@ impl<'a> Graph<'a> {
         }
     }
 
-    // The rank of every node that has one, and 0, in a fixed array, for the others: by a descent, which is quick, and then
-    // by passes over the nodes until one ranks none, which is sure.
+    // The rank of every node that has one, and 0, in a fixed array, for the others (an array of Options would be twice as
+    // long): by a descent, which is quick, and then by passes over the nodes until one ranks none, which is sure.
     #[tactic(auto, using(crate::proofs::Passing::all_ranked))]
     pub fn rank_all(&self, ranks: &mut [u16; PLACES])
         ensures { Ranked self.now.follow.now self.now.edges.now self.now.size ranks.new }

@@ -7,3 +7,7 @@ use Rattle.instruction.specs.declared.Operand.{Operand}
 -- operand j of slot i of processor p
 abbrev pub operand_named : Module → ℕ → ℕ → ℕ → Operand
 operand_named m p i j = operand_of (m.part p i j) (m.location p i j)
+
+-- what slot i of processor p sends
+abbrev pub send_named : Module → ℕ → ℕ → Operand
+send_named m p i = operand_of (m.send_part p i) (m.send_location p i)

@@ -3,8 +3,11 @@
 #![tactic(auto)]
 
 ghost use Rattle.std.specs.Prelude.{◌≡◌};
-ghost use Rattle.instruction.specs.Operand.{operand_of};
+ghost use Rattle.instruction.specs.Operand.{operand_of, location_of};
 ghost use Rattle.instruction.specs.Sender.{sender_laid, sender_numbered};
+
+// "The processor received from (99: none)".
+const NO_SENDER: u8 = 99;
 
 // What a pair of a table line names: a location of one of the four parts, in the order of their numbers, or none. None keeps the
 // pair's location, so that the location of an operand is read without asking which one it is.
@@ -17,8 +20,24 @@ pub enum Operand {
     None(u8),
 }
 
+impl Operand {
+    // The location of its pair, which none has too.
+    pub fn location(self) -> u8
+        ensures { result ≡ location_of self }
+    {
+        match self {
+            Operand::LocalEarlier(k)
+            | Operand::LocalPresent(k)
+            | Operand::SwitchEarlier(k)
+            | Operand::SwitchPresent(k)
+            | Operand::None(k) => k,
+        }
+    }
+}
+
 // A table line as it is executed: its signal (0: empty slot), what its operands and its send name, and the processor that it receives
-// from, if any.
+// from, if any. The operands have names, as in `gate`, and are no array: definitions would read an array with an operand that stands for
+// those it has not, and with one a slot of a small table took 4 % longer.
 #[derive(Clone, Copy)]
 pub struct Instruction {
     pub signal: u16,
@@ -44,11 +63,15 @@ pub fn operand_of(part: u16, location: u8) -> Operand
     }
 }
 
-// The processor that a line receives from, by its number ("99: none").
+// The processor that a line receives from, by its number.
 pub fn sender_numbered(number: u8) -> Option<u8>
     ensures { result ≡ sender_numbered number }
 {
-    if number == 99 { None } else { Some(number) }
+    if number == NO_SENDER {
+        None
+    } else {
+        Some(number)
+    }
 }
 
 // "processors below P", or none. The number is judged here, and so is no `Option` yet.
@@ -56,5 +79,5 @@ pub fn sender_numbered(number: u8) -> Option<u8>
 pub fn sender_right(sender: u16, processors: u16) -> bool
     ensures { result ≡ sender_laid processors sender }
 {
-    sender < processors || sender == 99
+    sender < processors || sender == u16::from(NO_SENDER)
 }

@@ -16,7 +16,7 @@ use Rattle.buffers_memory.specs.Memory.{memory_of}
 use Rattle.buffers_tables.specs.Panel.{signals_in, finished_in, hand_in, processor_in, slot_in}
 use Rattle.buffers_tables.specs.Tables.{network_in, module_in}
 use Rattle.buffers_range.specs.Ranges.{ranged}
-use Rattle.buffers_range.proofs.Laid.{lines_laid}
+use Rattle.model.proofs.Accepted.{lines_laid}
 use Rattle.buffers_range.proofs.Ranged.{panel_in_range, program_in_range}
 use Rattle.session_state.specs.Header.{head_in}
 use Rattle.buffers_lengths.specs.Lengths.{fixed}
@@ -56,7 +56,7 @@ module _ (b : Buffers) (r : ranged b.panel b.program b.memory ≡ true) where
   small = small_in b.panel b.program b.memory r
 
   laid : Laid n m
-  laid = lines_laid n m (program_in_range b.panel b.program b.memory r).lines
+  laid = lines_laid (program_in_range b.panel b.program b.memory r).lines
 
   codes : (s : ℕ) → Signal n s → hand_in panel s ≤ 3
   unfolding network_in

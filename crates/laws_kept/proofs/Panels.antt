@@ -22,7 +22,7 @@ use Rattle.session_state.specs.Header.{head_in, with_head}
 use Rattle.session_state.specs.Commands.{with_value}
 use Rattle.buffers_range_panel.specs.Ranges.{codes_ranged}
 use Rattle.buffers_range_panel.proofs.Numbers.{Numbers, Panel, input_zeros, zeros_input, supplied_gate, codes_function, codes_translation}
-use Rattle.buffers_range.proofs.Laid.{Line}
+use Rattle.model.proofs.Accepted.{Line}
 use Rattle.buffers_range.specs.Ranges.{ranged}
 use Rattle.buffers_range.proofs.Ranged.{Program, Values, is_ranged, panel_in_range, program_in_range}
 use Rattle.laws_kept.specs.InRange.{InRange}

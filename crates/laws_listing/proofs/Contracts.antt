@@ -8,7 +8,8 @@ use lib.Seq.{sets}
 use contract.Lifetimes.{Lfts}
 use denote.Triple.Clauses.{AtExit}
 use borrow.Fn.Kinds.{Dens, res_t, ended_of}
-use Rattle.model.specs.Files.{Files, files_of}
+use Rattle.model.specs.Files.{Files}
+use Rattle.file_bytes.specs.Bytes.{bytes_of}
 use Rattle.clock.specs.declared.Cycle.{Cycle}
 use Rattle.file_lines.specs.Answer.{answered}
 use Rattle.file_checks.specs.Answer.{file_refusal}
@@ -29,22 +30,21 @@ use Rattle.file_checks.proofs.write_refusal.Reads.{Learnt as RefusalTells}
 
 -- a step
 pub step_more : (κs : Lfts 7) (a : Dens κs step_ps) (p : (res_t step-r κs).Denot) (left : AtExit (ended_of 7 step_ps step-r) κs)
-    → StepTells κs a p left → length a.1.1.1.1.1.1.1.0.now ≡ piece_length → {pieces : List (List ℕ)}
-    → Steps a.1.1.0.now a.1.1.1.1.0.now p.lister left.1.1.1.0.now left.1.1.1.1.1.0.now left.1.1.1.1.1.1.0.now pieces
-    → Steps a.1.1.0.now a.1.1.1.1.0.now a.0 a.1.1.1.0.now a.1.1.1.1.1.0.now a.1.1.1.1.1.1.0.now
-    (take p.length left.1.1.1.1.1.1.1.0.now ∷ pieces)
+    → StepTells κs a p left → length a.1.1.1.1.1.1.0.now ≡ piece_length → {pieces : List (List ℕ)}
+    → Steps a.1.1.1.0.now p.lister left.1.1.0.now left.1.1.1.1.0.now left.1.1.1.1.1.0.now pieces
+    → Steps a.1.1.1.0.now a.0 a.1.1.0.now a.1.1.1.1.0.now a.1.1.1.1.1.0.now
+    (take p.length left.1.1.1.1.1.1.0.now ∷ pieces)
 step_more κs a p left told room rest = more _ p _ _ _ _ room told rest
 
 -- the opening
-pub open_stands : (κs : Lfts 7) (a : Dens κs open-ps) (l : (res_t open-r κs).Denot) (left : AtExit (ended_of 7 open-ps open-r) κs) → OpenTells κs a l left
-    → Stands (files_of a.0.now a.1.0.now a.1.1.0.now) 0 l a.1.1.0.now left.1.1.1.1.0.now
-    left.1.1.1.1.1.0.now left.1.1.1.1.1.1.0.now left.1.1.1.1.1.1.1.0.now
+pub open_stands : (κs : Lfts 6) (a : Dens κs open-ps) (l : (res_t open-r κs).Denot) (left : AtExit (ended_of 6 open-ps open-r) κs) → OpenTells κs a l left
+    → Stands (bytes_of a.0.now) 0 l left.1.1.0.now left.1.1.1.0.now left.1.1.1.1.0.now left.1.1.1.1.1.0.now
 open_stands κs a l left told = told
 
 -- how many steps
-pub counts : {files : Files} {k : ℕ} {stim panel program memory shown : List ℕ} (κs : Lfts 0) (a : Dens κs count-ps) (count : ℕ)
+pub counts : {files : Files} {k : ℕ} {panel program memory shown : List ℕ} (κs : Lfts 0) (a : Dens κs count-ps) (count : ℕ)
     (left : AtExit (ended_of 0 count-ps count-r) κs) → CountTells κs a count left → {l : Lister} → l.end ≡ a.0
-    → Stands files k l stim panel program memory shown → count ≡ piece_count files
+    → Stands files k l panel program memory shown → count ≡ piece_count files
 counts κs a count left told e s = told ∙ ap (λ (x : Cycle). x.0 + 2) (sym e) ∙ ap (λ (x : ℕ). x + 2) s.end
 
 -- a refusal's text

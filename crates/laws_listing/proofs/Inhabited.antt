@@ -27,25 +27,25 @@ use Rattle.machine_run.specs.Running.{cycle_in}
 use Rattle.buffers_load_files.specs.Loaded.{panel_of, program_of, opening_bytes}
 use Rattle.file_stim.specs.Judging.{numbers_of}
 use Rattle.session_state.specs.declared.Session.{Session}
+use Rattle.file_stim.specs.declared.Cursor.{Cursor}
 use Rattle.file_stim.proofs.Steps.{GivenAt}
 use Rattle.listing.specs.declared.Lister.{Lister}
 use Rattle.listing.specs.declared.Piece.{Piece}
 use Rattle.listing_cycle.specs.Changes.{piece_length, shown_length, not_shown, value_held, change_lines, shown_with}
-use Rattle.listing_cycle.specs.Feeding.{Fed}
+use Rattle.listing_cycle.specs.Feeding.{Passed, Fed}
 use Rattle.listing.specs.Pieces.{piece_count}
 use Rattle.listing.specs.Buffers.{line_at}
-use Rattle.listing.specs.Standing.{Stands, Gives}
+use Rattle.listing.specs.Standing.{stim_of, Stands, Gives}
 use Rattle.laws_listing.specs.Reading.{first_bytes}
 use Rattle.laws_listing.specs.Printing.{in_order, Steps, over, more, Prints, net_refused, mod_refused, stim_refused, listed as all_listed}
 use Rattle.listing_cycle.proofs.Feeding.{fed_starts, fed_more}
 use Rattle.listing.proofs.Lines.{lines_passed}
-use Rattle.listing.proofs.Standing.{right_signals, stands_few, at_count, by_count, gives_last, gives_zeroth, gives_later}
-use Rattle.listing.proofs.Opening.{opened}
+use Rattle.listing.proofs.Standing.{right_signals, at_count, by_count, gives_last, gives_zeroth, gives_later}
+use Rattle.listing.proofs.Opening.{accepted_stimulus, opened}
 use Rattle.laws_listing.proofs.Printed.{program_prints, program_demand_2}
 
 -- a line of STIM before its end line
-line_given : (stim : List ℕ) {t line : ℕ} → line < stim_count stim → stim_time stim line ≡ t
-    → GivenAt stim t line (numbers_of stim line) (record { line = line + 1 })
+line_given : (stim : List ℕ) {t line : ℕ} → line < stim_count stim → stim_time stim line ≡ t → GivenAt stim t line (numbers_of stim line) (line + 1)
 line_given stim l now = record { before_end = l; time_is = now; signal_is = refl; value_is = refl; follows = refl }
 
 -- the settings of a time
@@ -68,16 +68,16 @@ settles {stim} {panel} {t} {line} {now} {at} (suc n) few b fed =
     go rest (no d) q = record { left = now; next = at; fed = fed; stops = λ b q. absurd (d b) }
 
 -- a step that meets the contract of `Lister::step`
-record Stepped (lent stim program : List ℕ) (l : Lister) (panel memory shown : List ℕ) : Type 0 where
+record Stepped (lent program : List ℕ) (l : Lister) (panel memory shown : List ℕ) : Type 0 where
   piece : Piece
   out : List ℕ
   panel' : List ℕ
   memory' : List ℕ
   shown' : List ℕ
-  gives : (files : Files) (k : ℕ) → Stands files k l stim panel program memory shown → Gives files k lent piece out stim panel' program memory' shown'
+  gives : (files : Files) (k : ℕ) → Stands files k l panel program memory shown → Gives files k lent piece out panel' program memory' shown'
 
-module _ {files : Files} {k : ℕ} {l : Lister} {stim panel program memory shown : List ℕ} (s : Stands files k l stim panel program memory shown) (lent : List ℕ) where
-  steps_last : l.end.0 < l.pieces → Stepped lent stim program l panel memory shown
+module _ {files : Files} {k : ℕ} {l : Lister} {panel program memory shown : List ℕ} (s : Stands files k l panel program memory shown) (lent : List ℕ) where
+  steps_last : l.end.0 < l.pieces → Stepped lent program l panel memory shown
   steps_last h =
       let text = line_text (l.end.0 ∷ 0 ∷ 0 ∷ []) in
       record {
@@ -89,7 +89,7 @@ module _ {files : Files} {k : ℕ} {l : Lister} {stim panel program memory shown
         gives = λ files k s. gives_last s h lent _ _ refl refl refl;
       }
 
-  steps_first : l.pieces ≡ 0 → Stepped lent stim program l panel memory shown
+  steps_first : l.pieces ≡ 0 → Stepped lent program l panel memory shown
   steps_first e =
       let text = change_lines (signals_in panel) l.pieces (value_held panel memory) (λ x. get_or shown x 0) in
       record {
@@ -101,11 +101,11 @@ module _ {files : Files} {k : ℕ} {l : Lister} {stim panel program memory shown
         gives = λ files k z. by_count z (gives_zeroth l.pieces e (at_count z) lent _ _ _ refl refl refl refl);
       }
 
-  steps_later : (l.pieces ≡ 0 → ⊥) → l.pieces ≤ l.end.0 → Stepped lent stim program l panel memory shown
+  steps_later : (l.pieces ≡ 0 → ⊥) → l.pieces ≤ l.end.0 → Stepped lent program l panel memory shown
   steps_later d h =
-      let settled : Settled stim panel l.pieces l.cursor.line =
-      settles (stim_count stim) (right_signals s.right) (omega arith)
-      (fed_starts stim panel l.pieces l.cursor.line s.right.sizes.panel_size (stands_few s)) in
+      let settled : Settled (stim_of l) panel l.pieces l.cursor.line =
+      settles (stim_count (stim_of l)) (right_signals s.right) (omega arith)
+      (fed_starts (stim_of l) panel l.pieces l.cursor.line s.right.sizes.panel_size l.cursor.within) in
       let fed = settled.left in
       let after = with_memory (processors_in fed) (slots_in fed) (cycle_in fed program (memory_of memory)) memory in
       let text = change_lines (signals_in fed) l.pieces (value_held fed after) (λ x. get_or shown x 0) in
@@ -113,7 +113,7 @@ module _ {files : Files} {k : ℕ} {l : Lister} {stim panel program memory shown
         piece = record {
           lister = record {
             session = record { finished = record { 0 = l.session.finished.0 + 1 }; watch = l.session.watch };
-            cursor = record { line = settled.next };
+            cursor = record { stimulus = l.cursor.stimulus; line = settled.next; within = settled.fed.few };
             end = l.end;
             pieces = l.pieces + 1;
           };
@@ -126,13 +126,13 @@ module _ {files : Files} {k : ℕ} {l : Lister} {stim panel program memory shown
         gives = λ files k z.
             by_count z
             (gives_later {ready = l.session} after l.pieces (at_count z) d h settled.fed settled.stops (refl, refl) refl lent _ _ _ refl refl refl
-            (refl, refl) refl refl refl);
+            (refl, refl) refl refl refl refl);
       }
 
-  steps_once : Stepped lent stim program l panel memory shown
+  steps_once : Stepped lent program l panel memory shown
   steps_once = go (dec_lt l.end.0 l.pieces) (ℕ_discrete l.pieces 0)
     where
-      go : Dec (l.end.0 < l.pieces) → Dec (l.pieces ≡ 0) → Stepped lent stim program l panel memory shown
+      go : Dec (l.end.0 < l.pieces) → Dec (l.pieces ≡ 0) → Stepped lent program l panel memory shown
       go (yes h) e = steps_last h
       go (no d) (yes e) = steps_first e
       go (no d) (no e) = steps_later e (omega arith)
@@ -142,8 +142,8 @@ abbrev lent : List ℕ
 lent = listed piece_length (λ a. 0)
 
 module _ {files : Files} where
-  steps : (n : ℕ) {k : ℕ} {l : Lister} {stim panel program memory shown : List ℕ} → Stands files k l stim panel program memory shown
-      → k + suc n ≡ piece_count files → (pieces : List (List ℕ)) × Steps stim program l panel memory shown pieces × (length pieces ≡ suc n)
+  steps : (n : ℕ) {k : ℕ} {l : Lister} {panel program memory shown : List ℕ} → Stands files k l panel program memory shown
+      → k + suc n ≡ piece_count files → (pieces : List (List ℕ)) × Steps program l panel memory shown pieces × (length pieces ≡ suc n)
   steps zero s e =
       let one = steps_once s lent in (
         take one.piece.length one.out ∷ [],
@@ -166,14 +166,25 @@ module _ (files : Files) (accepted : Accepted panel_limit files) where
   abbrev session : Session
   session = record { finished = record { 0 = finished_in panel }; watch = record { signal = watched_in panel; mask = mask_in panel } }
 
-  abbrev lister : Lister
-  lister = record { session = session; cursor = record { line = line_at files 0 }; end = record { 0 = end_time files.STIM }; pieces = 0 }
+  -- the first line after those of time 0
+  cursor_passed : Passed files.STIM 0 (line_at files 0)
+  cursor_passed = lines_passed (network_of files) files.STIM (stim_accepted panel_limit files accepted) 0
 
-  opens : Stands files 0 lister files.STIM panel (program_of files) (opening_bytes files) (listed shown_length (λ a. not_shown))
+  abbrev cursor : Cursor
+  cursor =
+      record {
+        stimulus = record { bytes = record { ref_ptr = (0, 0); now = files.STIM }; accepted = ∣ accepted_stimulus files accepted ∣₁ };
+        line = line_at files 0;
+        within = cursor_passed.few;
+      }
+
+  abbrev lister : Lister
+  lister = record { session = session; cursor = cursor; end = record { 0 = end_time files.STIM }; pieces = 0 }
+
+  opens : Stands files 0 lister panel (program_of files) (opening_bytes files) (listed shown_length (λ a. not_shown))
   opens =
       opened files accepted lister panel (program_of files) (opening_bytes files) (listed shown_length (λ a. not_shown))
-      refl refl refl refl
-      (lines_passed (network_of files) files.STIM (stim_accepted panel_limit files accepted) 0) refl refl refl
+      refl refl refl refl refl cursor_passed refl refl refl
 
   lists : (text : List ℕ) × Prints files text
   lists =

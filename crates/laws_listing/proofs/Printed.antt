@@ -87,15 +87,15 @@ module _ (files : Files) where
       ∙ pieces_joined
 
   -- the pieces that steps give are those of the files
-  steps_give : {stim program : List ℕ} {l : Lister} {panel memory shown : List ℕ} {pieces : List (List ℕ)} (k : ℕ)
-      → Steps stim program l panel memory shown pieces → k + length pieces ≤ piece_count files
-      → (0 < length pieces → Stands files k l stim panel program memory shown) → pieces ≡ pieces_from (piece_at files) k (length pieces)
+  steps_give : {program : List ℕ} {l : Lister} {panel memory shown : List ℕ} {pieces : List (List ℕ)} (k : ℕ)
+      → Steps program l panel memory shown pieces → k + length pieces ≤ piece_count files
+      → (0 < length pieces → Stands files k l panel program memory shown) → pieces ≡ pieces_from (piece_at files) k (length pieces)
   unfolding pieces_from
   steps_give k over few stands = refl
-  steps_give {stim} {program} k (more {pieces = pieces} lent p out panel' memory' shown' room step rest) few stands =
+  steps_give {program} k (more {pieces = pieces} lent p out panel' memory' shown' room step rest) few stands =
       ap (λ (x : List ℕ). x ∷ pieces) here ∙ ap (λ (x : List (List ℕ)). piece_at files k ∷ x) (steps_give (suc k) rest (omega arith) next)
     where
-      g : Gives files k lent p out stim panel' program memory' shown'
+      g : Gives files k lent p out panel' program memory' shown'
       g = step files k (stands (omega arith))
 
       fits : 0 + length (piece_at files k) ≤ length lent
@@ -108,7 +108,7 @@ module _ (files : Files) where
           ∙ ap (λ (x : List ℕ). take (length (piece_at files k)) x) (append_assoc (take 0 lent) (piece_at files k) _)
           ∙ take-append_seam (piece_at files k) _
 
-      next : 0 < length pieces → Stands files (suc k) p.lister stim panel' program memory' shown'
+      next : 0 < length pieces → Stands files (suc k) p.lister panel' program memory' shown'
       next h = g.next (omega arith)
 
 -- an accepted file is read whole

@@ -20,12 +20,12 @@ in_order (p ∷ ps) = p ++ in_order ps
 
 -- Steps one after the other, each getting the listing and the buffers as the last one left them, and its piece: the first bytes of the
 -- buffer lent to it. The premise on them is the contract of `Lister::step`.
-pub data Steps (stim program : List ℕ) : Lister → List ℕ → List ℕ → List ℕ → List (List ℕ) → Type 0 where
-  over : {l : Lister} {panel memory shown : List ℕ} → Steps stim program l panel memory shown []
+pub data Steps (program : List ℕ) : Lister → List ℕ → List ℕ → List ℕ → List (List ℕ) → Type 0 where
+  over : {l : Lister} {panel memory shown : List ℕ} → Steps program l panel memory shown []
   more : {l : Lister} {panel memory shown : List ℕ} {pieces : List (List ℕ)} (lent : List ℕ) (p : Piece) (out panel' memory' shown' : List ℕ)
       → length lent ≡ piece_length
-      → ((files : Files) (k : ℕ) → Stands files k l stim panel program memory shown → Gives files k lent p out stim panel' program memory' shown')
-      → Steps stim program p.lister panel' memory' shown' pieces → Steps stim program l panel memory shown (take p.length out ∷ pieces)
+      → ((files : Files) (k : ℕ) → Stands files k l panel program memory shown → Gives files k lent p out panel' program memory' shown')
+      → Steps program p.lister panel' memory' shown' pieces → Steps program l panel memory shown (take p.length out ∷ pieces)
 
 -- A text that may be printed, these bytes of the files being read. A check's answer says what its contract says, and a refusal is printed by
 -- `write_refusal`; the first listing is as `open` leaves it, and as many steps follow as `piece_count` tells.
@@ -38,5 +38,5 @@ pub data Prints (read : Files) : List ℕ → Type 0 where
       → said ≡ stim_check (network_of read) read.STIM → (stim_check (network_of read) read.STIM ≡ pass → ⊥)
       → Prints read (refused_text said)
   listed : Accepted panel_limit read → {l : Lister} {panel program memory shown : List ℕ} {pieces : List (List ℕ)}
-      → Stands read 0 l read.STIM panel program memory shown → Steps read.STIM program l panel memory shown pieces
+      → Stands read 0 l panel program memory shown → Steps program l panel memory shown pieces
       → length pieces ≡ piece_count read → Prints read (in_order pieces)

@@ -23,7 +23,7 @@ use Rattle.model.specs.ModuleFile.{mod_processors, mod_slots, module_of, mod_che
 use Rattle.model.specs.Value.{start}
 use Rattle.model.specs.Machine.{opening}
 use Rattle.model.proofs.Value.{start_code}
-use Rattle.model.proofs.Accepted.{mod_accepted, stim_accepted, SignalRight, Located, mod_processors_lem, mod_slots_lem, mod_slot_lem, mod_scheduled, stim_right, held_code}
+use Rattle.model.proofs.Accepted.{mod_accepted, stim_accepted, SignalRight, Located, Line, mod_processors_lem, mod_slots_lem, mod_slot_lem, mod_scheduled, stim_right, held_code}
 use Rattle.model.specs.Checked.{Checked}
 use Rattle.model.proofs.Checked.{files_checked, checked_size, checked_signal}
 use Rattle.model.proofs.Machine.{Small, opening_small}
@@ -36,7 +36,6 @@ use Rattle.buffers_tables.proofs.Places.{byte_is, column_low, signal_high}
 use Rattle.buffers_range_panel.specs.Ranges.{codes_ranged}
 use Rattle.buffers_range.specs.Ranges.{ranged}
 use Rattle.buffers_range_panel.proofs.Numbers.{Head, Numbers, Panel, zeros_input, supplied_gate}
-use Rattle.buffers_range.proofs.Laid.{Line}
 use Rattle.buffers_range.proofs.Ranged.{Program, Values, is_ranged, head_ranged_lem}
 use Rattle.buffers_load_files.specs.Loaded.{time_zero, place_of, panel_of, program_of, opening_bytes}
 use Rattle.buffers_load_memory.specs.Bytes.{sent_value, opening_byte}

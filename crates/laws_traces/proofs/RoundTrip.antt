@@ -4,21 +4,25 @@ use mathlib.Core.Path.{◌≡◌, refl, sym, subst₂, ◌∙◌, ap, ap₂}
 use mathlib.Core.Bool.{Bool, true, false, true≢false}
 use mathlib.Core.List.{List}
 use native.Mathlib.Omega.{arith}
-use lib.Dec.{ltb}
+use lib.Dec.{eqb, ltb}
 use lib.ListN.{length, get_or}
 use borrow.Author.Tests.{eqb-true, eq-eqb, ltb-true}
 use Rattle.std.specs.Prelude.{if◌then◌else◌}
+use Rattle.logic.specs.Test.{◌or◌}
 use Rattle.logic.specs.Listed.{listed}
 use Rattle.logic.proofs.Listed.{listed_length, listed_at, is_listed}
 use Rattle.logic.proofs.Tests.{all_at, all_true, or_left, or_right, or_otherwise}
 use Rattle.traces.specs.Bits.{bit, bits}
 use Rattle.traces.specs.Turned.{values_length, block_length, recorded, turned_byte, turned, block_value, value_back, turned_back, unused_clear}
 use Rattle.traces.proofs.Bits.{bit_small, bit_of_bits, bits_same, bits_below, low_byte}
-use Rattle.traces.proofs.Unused.{clear_at}
 
 two_bits : (v : ℕ) → v ≤ 3 → bit v 0 + 2 * bit v 1 ≡ v
 unfolding bit
 two_bits v h = omega arith
+
+-- cycle c is within the count, or the block has 0 for it
+abbrev clear_at : List ℕ → ℕ → ℕ → Bool
+clear_at block count c = ltb c count or eqb (block_value block c) 0
 
 module _ (values : List ℕ) (count : ℕ) where
   pub turned_length : length (turned values count) ≡ block_length

@@ -24,16 +24,17 @@ use Rattle.buffers_load.proofs.Loaded.{loaded_panel_size, loaded_program_size, l
 use Rattle.laws_opening.proofs.Opened.{opened_ranged}
 use Rattle.session_state.specs.Header.{head_in}
 use Rattle.session_state.specs.Carried.{head_of}
+use Rattle.file_stim.specs.Acceptance.{SomeAccepts}
 use Rattle.listing.specs.declared.Lister.{Lister}
 use Rattle.listing_cycle.specs.Changes.{shown_length, not_shown}
-use Rattle.listing_cycle.specs.Feeding.{Stimulus, Passed}
+use Rattle.listing_cycle.specs.Feeding.{Passed}
 use Rattle.listing_cycle.specs.Cycling.{RightBuffers}
 use Rattle.listing.specs.Buffers.{cycles_after, memory_at, shown_at}
-use Rattle.listing.specs.Standing.{Stands}
+use Rattle.listing.specs.Standing.{stim_of, Stands}
 use Rattle.listing.proofs.Lines.{passed_line}
 use Rattle.listing.proofs.Buffers.{panel_loaded}
 
-pub accepted_stimulus : (files : Files) → Accepted panel_limit files → Stimulus files.STIM
+pub accepted_stimulus : (files : Files) → Accepted panel_limit files → SomeAccepts files.STIM
 accepted_stimulus files accepted = record { network = network_of files; passes = stim_accepted panel_limit files accepted }
 
 module _ (files : Files) (accepted : Accepted panel_limit files) where
@@ -58,14 +59,14 @@ module _ (files : Files) (accepted : Accepted panel_limit files) where
         range = opened_ranged panel_few files accepted;
       }
 
-  opened_stands : (l : Lister) → head_of l.session panel ≡ head_in panel → Passed files.STIM 0 l.cursor.line → l.end.0 ≡ end_time files.STIM
-      → l.pieces ≡ 0 → (shown : List ℕ) → shown ≡ listed shown_length (λ a. not_shown) → Stands files 0 l files.STIM panel program memory shown
+  opened_stands : (l : Lister) → head_of l.session panel ≡ head_in panel → stim_of l ≡ files.STIM → Passed files.STIM 0 l.cursor.line → l.end.0 ≡ end_time files.STIM
+      → l.pieces ≡ 0 → (shown : List ℕ) → shown ≡ listed shown_length (λ a. not_shown) → Stands files 0 l panel program memory shown
   unfolding cycles_after memory_at shown_at opening_bytes after history module_of network
-  opened_stands l head passed end count shown none =
+  opened_stands l head reads passed end count shown none =
       let zeroth = loaded_head panel_few files accepted in
       record {
         accepted = accepted;
-        stimulus = refl;
+        stimulus = reads;
         left = omega arith;
         given = count;
         end = end;
@@ -85,10 +86,10 @@ module _ (files : Files) (accepted : Accepted panel_limit files) where
 
   -- the same of buffers that are equal to those
   pub opened : (l : Lister) (a b c shown : List ℕ) → a ≡ panel → b ≡ program → c ≡ memory → head_of l.session a ≡ head_in a
-      → Passed files.STIM 0 l.cursor.line → l.end.0 ≡ end_time files.STIM → l.pieces ≡ 0
-      → shown ≡ listed shown_length (λ a. not_shown) → Stands files 0 l files.STIM a b c shown
-  opened l a b c shown p q r head passed end count none =
-      subst (λ (x : List ℕ). Stands files 0 l files.STIM a b x shown) (sym r)
-      (subst (λ (x : List ℕ). Stands files 0 l files.STIM a x memory shown) (sym q)
-      (subst (λ (x : List ℕ). head_of l.session x ≡ head_in x → Stands files 0 l files.STIM x program memory shown) (sym p)
-      (λ h. opened_stands l h passed end count shown none) head))
+      → stim_of l ≡ files.STIM → Passed files.STIM 0 l.cursor.line → l.end.0 ≡ end_time files.STIM → l.pieces ≡ 0
+      → shown ≡ listed shown_length (λ a. not_shown) → Stands files 0 l a b c shown
+  opened l a b c shown p q r head reads passed end count none =
+      subst (λ (x : List ℕ). Stands files 0 l a b x shown) (sym r)
+      (subst (λ (x : List ℕ). Stands files 0 l a x memory shown) (sym q)
+      (subst (λ (x : List ℕ). head_of l.session x ≡ head_in x → Stands files 0 l x program memory shown) (sym p)
+      (λ h. opened_stands l h reads passed end count shown none) head))

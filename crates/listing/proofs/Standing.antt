@@ -33,15 +33,16 @@ use Rattle.session_state.specs.Commands.{signal_in, input_in}
 use Rattle.session_calls.proofs.Watched.{ranged_processor}
 use Rattle.laws_kept.proofs.Tables.{same_holding}
 use Rattle.file_stim.proofs.Passed.{nothing_later, given_by_then}
-use Rattle.file_stim.proofs.Steps.{line_right, time_field}
+use Rattle.file_stim.proofs.Steps.{time_field}
+use Rattle.file_stim.specs.declared.Stimulus.{Stimulus}
 use Rattle.listing.specs.declared.Lister.{Lister}
 use Rattle.listing.specs.declared.Piece.{Piece}
 use Rattle.listing_cycle.specs.Changes.{shown_length, value_held, change_lines, shown_with}
-use Rattle.listing_cycle.specs.Feeding.{Stimulus, Passed, PanelInputs, InHand, Fed, SameNumbers}
+use Rattle.listing_cycle.specs.Feeding.{Passed, PanelInputs, InHand, Fed, SameNumbers}
 use Rattle.listing_cycle.specs.Cycling.{RightBuffers, Ready, OneMore}
 use Rattle.listing.specs.Pieces.{piece_at}
 use Rattle.listing.specs.Buffers.{cycles_after, line_at, hand_at, panel_at, panel_after, memory_at, shown_at, shown_after}
-use Rattle.listing.specs.Standing.{SessionAt, Stands, Gives}
+use Rattle.listing.specs.Standing.{SessionAt, stim_of, Stands, Gives}
 use Rattle.listing.proofs.Lines.{lines_passed, passed_line}
 use Rattle.listing_cycle.proofs.Feeding.{no_input, fed_fixed, fed_right}
 use Rattle.listing_cycle.proofs.Cycling.{cycle_right}
@@ -52,7 +53,7 @@ use Rattle.listing.proofs.Pieces.{piece_is, piece_last, piece_short}
 pub end_small : (n : Network) (stim : List ℕ) → stim_check n stim ≡ pass → end_time stim ≤ 65535
 unfolding end_time
 end_small n stim passes =
-    number_small stim (stim_line (stim_count stim)) (time_field stim (stim_count stim) (line_right n stim passes (stim_count stim) (omega arith)))
+    number_small stim (stim_line (stim_count stim)) (time_field stim (stim_count stim) (stim_right n stim passes).end.line)
 
 -- what buffers that are right give to the functions that read values
 module _ {panel program memory : List ℕ} (right : RightBuffers panel program memory) where
@@ -94,17 +95,11 @@ module _ (files : Files) (accepted : Accepted panel_limit files) (t : ℕ) (more
       ∙ shown_next files accepted t more (value_held panel memory) values_held
 
 -- what a listing that stands gives to the functions that it calls
-module _ {files : Files} {k : ℕ} {l : Lister} {stim panel program memory shown : List ℕ} (s : Stands files k l stim panel program memory shown) where
-  pub stands_stimulus : Stimulus stim
-  stands_stimulus = record { network = network_of files; passes = rw s.stimulus (stim_accepted panel_limit files s.accepted) }
-
+module _ {files : Files} {k : ℕ} {l : Lister} {panel program memory shown : List ℕ} (s : Stands files k l panel program memory shown) where
   stands_passed : Passed files.STIM (cycles_after files k) l.cursor.line
   stands_passed =
       subst (Passed files.STIM (cycles_after files k)) (sym s.line_is)
       (lines_passed (network_of files) files.STIM (stim_accepted panel_limit files s.accepted) (cycles_after files k))
-
-  pub stands_few : l.cursor.line ≤ stim_count stim
-  stands_few = rw s.stimulus stands_passed.few
 
   stands_holding : Holding (network_of files) (module_of_files files) panel program
   stands_holding =
@@ -115,10 +110,10 @@ module _ {files : Files} {k : ℕ} {l : Lister} {stim panel program memory shown
   -- A piece is given, and the listing stands after it
   module _ {lent out panel' memory' shown' : List ℕ} {p : Piece} (text : List ℕ) (is : text ≡ piece_at files k) (size : p.length ≡ length text)
       (bytes : out ≡ sets lent 0 text) (given : p.lister.pieces ≡ l.pieces + 1) (end : p.lister.end.0 ≡ l.end.0)
-      (t : ℕ) (cycles : cycles_after files (suc k) ≡ t) (line : p.lister.cursor.line ≡ line_at files t)
+      (t : ℕ) (cycles : cycles_after files (suc k) ≡ t) (reads : p.lister.cursor.stimulus ≡ l.cursor.stimulus) (line : p.lister.cursor.line ≡ line_at files t)
       (session : SessionAt t p.lister.session) (panel-left : panel' ≡ panel_at files t) (memory_left : memory' ≡ memory_at files t)
       (shown-left : shown' ≡ shown_after files (suc k)) (right : RightBuffers panel' program memory') where
-    gives : Gives files k lent p out stim panel' program memory' shown'
+    gives : Gives files k lent p out panel' program memory' shown'
     gives =
         record {
           size = size ∙ ap length is;
@@ -134,7 +129,7 @@ module _ {files : Files} {k : ℕ} {l : Lister} {stim panel program memory shown
           next = λ b.
               record {
                 accepted = s.accepted;
-                stimulus = s.stimulus;
+                stimulus = ap (λ (x : Stimulus). x.bytes.now) reads ∙ s.stimulus;
                 left = omega arith;
                 given = count;
                 end = end ∙ s.end;
@@ -159,17 +154,17 @@ module _ {files : Files} {k : ℕ} {l : Lister} {stim panel program memory shown
   gives_still : cycles_after files (suc k) ≡ cycles_after files k → {lent out shown' : List ℕ} {p : Piece} (text : List ℕ) → text ≡ piece_at files k
       → p.length ≡ length text → out ≡ sets lent 0 text
       → p.lister ≡ record { session = l.session; cursor = l.cursor; end = l.end; pieces = l.pieces + 1 }
-      → shown' ≡ shown_after files (suc k) → Gives files k lent p out stim panel program memory shown'
+      → shown' ≡ shown_after files (suc k) → Gives files k lent p out panel program memory shown'
   gives_still same {p = p} text is size bytes after shown-left =
       gives text is size bytes (ap (λ (x : Lister). x.pieces) after) (ap (λ (x : Lister). x.end.0) after) (cycles_after files k) same
-      (ap (λ (x : Lister). x.cursor.line) after ∙ s.line_is)
+      (ap (λ (x : Lister). x.cursor.stimulus) after) (ap (λ (x : Lister). x.cursor.line) after ∙ s.line_is)
       (subst (λ (x : Lister). SessionAt (cycles_after files k) x.session) (sym after) s.session_is) s.panel_is s.memory_is shown-left s.right
 
   -- the last line
   pub gives_last : l.end.0 < l.pieces → (lent out : List ℕ) (p : Piece) → p.length ≡ length (line_text (l.end.0 ∷ 0 ∷ 0 ∷ []))
       → out ≡ sets lent 0 (line_text (l.end.0 ∷ 0 ∷ 0 ∷ []))
       → p.lister ≡ record { session = l.session; cursor = l.cursor; end = l.end; pieces = l.pieces + 1 }
-      → Gives files k lent p out stim panel program memory shown
+      → Gives files k lent p out panel program memory shown
   gives_last h lent out p size bytes after =
       let last : k ≡ suc (end_time files.STIM) = omega (arith, s.given, s.left, s.end) in
       gives_still (subst (λ (x : ℕ). cycles_after files (suc x) ≡ cycles_after files x) (sym last) (cycles_last files))
@@ -179,24 +174,24 @@ module _ {files : Files} {k : ℕ} {l : Lister} {stim panel program memory shown
       (s.shown_is ∙ sym (subst (λ (x : ℕ). shown_after files (suc x) ≡ shown_after files x) (sym last) (shown_last files)))
 
 -- time 0
-pub gives_first : {files : Files} {l : Lister} {stim panel program memory shown : List ℕ} (s : Stands files 0 l stim panel program memory shown)
+pub gives_first : {files : Files} {l : Lister} {panel program memory shown : List ℕ} (s : Stands files 0 l panel program memory shown)
     (lent out shown' : List ℕ) (p : Piece)
     → p.length ≡ length (change_lines (signals_in panel) 0 (value_held panel memory) (λ x. get_or shown x 0))
     → out ≡ sets lent 0 (change_lines (signals_in panel) 0 (value_held panel memory) (λ x. get_or shown x 0))
     → shown' ≡ shown_with (signals_in panel) (value_held panel memory) (λ x. get_or shown x 0)
     → p.lister ≡ record { session = l.session; cursor = l.cursor; end = l.end; pieces = 1 }
-    → Gives files 0 lent p out stim panel program memory shown'
+    → Gives files 0 lent p out panel program memory shown'
 unfolding cycles_after
-gives_first {files} {l} {stim} {panel} {program} {memory} {shown} s lent out shown' p size bytes shows after =
+gives_first {files} {l} {panel} {program} {memory} {shown} s lent out shown' p size bytes shows after =
     gives_still s (cycles_at files 0 (omega arith)) _
     (piece_given files s.accepted 0 (omega arith) panel program (stands_holding s) memory s.memory_is shown s.shown_is) size bytes
     (after ∙ ap (λ (x : ℕ). record { session = l.session; cursor = l.cursor; end = l.end; pieces = x }) (let e : 1 ≡ l.pieces + 1 = omega (arith, s.given) in e))
     (shows ∙ shown_given files s.accepted 0 (omega arith) panel program (stands_holding s) memory s.memory_is shown s.shown_is)
 
 -- a cycle, t being finished: its settings, which leave the panel fed and the session ready
-module _ {files : Files} {t : ℕ} {l : Lister} {stim panel program memory shown : List ℕ}
-    (s : Stands files (suc t) l stim panel program memory shown) (more : suc t ≤ end_time files.STIM) {fed : List ℕ} {next : ℕ}
-    (feeding : Fed stim panel (suc t) l.cursor.line fed next) (stops : next < stim_count stim → stim_time stim next ≡ suc t → ⊥)
+module _ {files : Files} {t : ℕ} {l : Lister} {panel program memory shown : List ℕ}
+    (s : Stands files (suc t) l panel program memory shown) (more : suc t ≤ end_time files.STIM) {fed : List ℕ} {next : ℕ}
+    (feeding : Fed (stim_of l) panel (suc t) l.cursor.line fed next) (stops : next < stim_count (stim_of l) → stim_time (stim_of l) next ≡ suc t → ⊥)
     {ready : Session} (same : SameNumbers l.session ready) where
   abbrev n : Network
   n = network_of files
@@ -338,33 +333,33 @@ module _ {files : Files} {t : ℕ} {l : Lister} {stim panel program memory shown
         → p.length ≡ length (change_lines (signals_in fed) (suc t) (value_held fed memory') (λ x. get_or shown x 0))
         → out ≡ sets lent 0 (change_lines (signals_in fed) (suc t) (value_held fed memory') (λ x. get_or shown x 0))
         → shown' ≡ shown_with (signals_in fed) (value_held fed memory') (λ x. get_or shown x 0)
-        → OneMore ready p.lister.session → p.lister.cursor.line ≡ next → p.lister.end.0 ≡ l.end.0 → p.lister.pieces ≡ l.pieces + 1
-        → Gives files (suc t) lent p out stim fed program memory' shown'
-    gives_cycle lent out shown' p size bytes shows once line end count =
+        → OneMore ready p.lister.session → p.lister.cursor.stimulus ≡ l.cursor.stimulus → p.lister.cursor.line ≡ next → p.lister.end.0 ≡ l.end.0 → p.lister.pieces ≡ l.pieces + 1
+        → Gives files (suc t) lent p out fed program memory' shown'
+    gives_cycle lent out shown' p size bytes shows once reads line end count =
         gives s _
         (piece_given files s.accepted (suc t) more fed program fed_holding memory' memory_left shown s.shown_is) size bytes count end
-        (suc t) (cycles_at files (suc t) more) (line ∙ passed_line n given_stim accepts (suc t) next passed_next)
+        (suc t) (cycles_at files (suc t) more) reads (line ∙ passed_line n given_stim accepts (suc t) next passed_next)
         (omega (arith, once.0, session_here.0), once.1 ∙ session_here.1) fed_is memory_left
         (shows ∙ shown_given files s.accepted (suc t) more fed program fed_holding memory' memory_left shown s.shown_is)
         cycle_stands
 
 -- the same by the number of pieces that the listing itself keeps
-module _ {files : Files} {k : ℕ} {l : Lister} {stim panel program memory shown : List ℕ} (s : Stands files k l stim panel program memory shown) where
-  pub at_count : Stands files l.pieces l stim panel program memory shown
-  at_count = subst (λ (x : ℕ). Stands files x l stim panel program memory shown) (sym s.given) s
+module _ {files : Files} {k : ℕ} {l : Lister} {panel program memory shown : List ℕ} (s : Stands files k l panel program memory shown) where
+  pub at_count : Stands files l.pieces l panel program memory shown
+  at_count = subst (λ (x : ℕ). Stands files x l panel program memory shown) (sym s.given) s
 
-  pub by_count : {lent out panel' memory' shown' : List ℕ} {p : Piece} → Gives files l.pieces lent p out stim panel' program memory' shown'
-      → Gives files k lent p out stim panel' program memory' shown'
+  pub by_count : {lent out panel' memory' shown' : List ℕ} {p : Piece} → Gives files l.pieces lent p out panel' program memory' shown'
+      → Gives files k lent p out panel' program memory' shown'
   by_count {lent} {out} {panel'} {memory'} {shown'} {p} g =
-      subst (λ (x : ℕ). Gives files x lent p out stim panel' program memory' shown') s.given g
+      subst (λ (x : ℕ). Gives files x lent p out panel' program memory' shown') s.given g
 
-pub gives_zeroth : {files : Files} (m : ℕ) {l : Lister} {stim panel program memory shown : List ℕ} → m ≡ 0
-    → Stands files m l stim panel program memory shown → (lent out shown' : List ℕ) (p : Piece)
+pub gives_zeroth : {files : Files} (m : ℕ) {l : Lister} {panel program memory shown : List ℕ} → m ≡ 0
+    → Stands files m l panel program memory shown → (lent out shown' : List ℕ) (p : Piece)
     → p.length ≡ length (change_lines (signals_in panel) m (value_held panel memory) (λ x. get_or shown x 0))
     → out ≡ sets lent 0 (change_lines (signals_in panel) m (value_held panel memory) (λ x. get_or shown x 0))
     → shown' ≡ shown_with (signals_in panel) (value_held panel memory) (λ x. get_or shown x 0)
     → p.lister ≡ record { session = l.session; cursor = l.cursor; end = l.end; pieces = 1 }
-    → Gives files m lent p out stim panel program memory shown'
+    → Gives files m lent p out panel program memory shown'
 gives_zeroth zero e s = gives_first s
 gives_zeroth (suc m) e s = absurd (omega arith)
 
@@ -372,27 +367,27 @@ gives_zeroth (suc m) e s = absurd (omega arith)
 abbrev Cycled : List ℕ → List ℕ → List ℕ → List ℕ → Type 0
 Cycled panel program memory left = left ≡ with_memory (processors_in panel) (slots_in panel) (cycle_in panel program (memory_of memory)) memory
 
-module _ {files : Files} {l : Lister} {stim panel program memory shown fed : List ℕ} {next : ℕ} {ready : Session} where
-  pub later_ready : (m : ℕ) → Stands files m l stim panel program memory shown → (m ≡ 0 → ⊥) → m ≤ l.end.0
-      → Fed stim panel m l.cursor.line fed next → (next < stim_count stim → stim_time stim next ≡ m → ⊥) → SameNumbers l.session ready
+module _ {files : Files} {l : Lister} {panel program memory shown fed : List ℕ} {next : ℕ} {ready : Session} where
+  pub later_ready : (m : ℕ) → Stands files m l panel program memory shown → (m ≡ 0 → ⊥) → m ≤ l.end.0
+      → Fed (stim_of l) panel m l.cursor.line fed next → (next < stim_count (stim_of l) → stim_time (stim_of l) next ≡ m → ⊥) → SameNumbers l.session ready
       → Ready ready fed program memory
   later_ready zero s d more feeding stops same = absurd (d refl)
   later_ready (suc t) s d more feeding stops same = stands_ready s (omega (arith, s.end)) feeding stops same
 
   module _ (memory' : List ℕ) where
-    pub later_right : (m : ℕ) → Stands files m l stim panel program memory shown → (m ≡ 0 → ⊥) → m ≤ l.end.0
-        → Fed stim panel m l.cursor.line fed next → (next < stim_count stim → stim_time stim next ≡ m → ⊥) → SameNumbers l.session ready
+    pub later_right : (m : ℕ) → Stands files m l panel program memory shown → (m ≡ 0 → ⊥) → m ≤ l.end.0
+        → Fed (stim_of l) panel m l.cursor.line fed next → (next < stim_count (stim_of l) → stim_time (stim_of l) next ≡ m → ⊥) → SameNumbers l.session ready
         → Cycled fed program memory memory' → RightBuffers fed program memory'
     later_right zero s d more feeding stops same = absurd (d refl)
     later_right (suc t) s d more feeding stops same = cycle_stands s (omega (arith, s.end)) feeding stops same memory'
 
-    pub gives_later : (m : ℕ) → Stands files m l stim panel program memory shown → (m ≡ 0 → ⊥) → m ≤ l.end.0
-        → Fed stim panel m l.cursor.line fed next → (next < stim_count stim → stim_time stim next ≡ m → ⊥) → SameNumbers l.session ready
+    pub gives_later : (m : ℕ) → Stands files m l panel program memory shown → (m ≡ 0 → ⊥) → m ≤ l.end.0
+        → Fed (stim_of l) panel m l.cursor.line fed next → (next < stim_count (stim_of l) → stim_time (stim_of l) next ≡ m → ⊥) → SameNumbers l.session ready
         → Cycled fed program memory memory' → (lent out shown' : List ℕ) (p : Piece)
         → p.length ≡ length (change_lines (signals_in fed) m (value_held fed memory') (λ x. get_or shown x 0))
         → out ≡ sets lent 0 (change_lines (signals_in fed) m (value_held fed memory') (λ x. get_or shown x 0))
         → shown' ≡ shown_with (signals_in fed) (value_held fed memory') (λ x. get_or shown x 0)
-        → OneMore ready p.lister.session → p.lister.cursor.line ≡ next → p.lister.end.0 ≡ l.end.0 → p.lister.pieces ≡ l.pieces + 1
-        → Gives files m lent p out stim fed program memory' shown'
+        → OneMore ready p.lister.session → p.lister.cursor.stimulus ≡ l.cursor.stimulus → p.lister.cursor.line ≡ next → p.lister.end.0 ≡ l.end.0 → p.lister.pieces ≡ l.pieces + 1
+        → Gives files m lent p out fed program memory' shown'
     gives_later zero s d more feeding stops same = absurd (d refl)
     gives_later (suc t) s d more feeding stops same = gives_cycle s (omega (arith, s.end)) feeding stops same memory'

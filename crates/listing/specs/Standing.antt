@@ -19,9 +19,13 @@ use Rattle.listing.specs.Buffers.{cycles_after, line_after, panel_after, memory_
 abbrev pub SessionAt : ℕ → Session → Type 0
 SessionAt t s = Carries t (record { signal = 1; mask = 0 }) s
 
-pub record Stands (files : Files) (k : ℕ) (l : Lister) (stim panel program memory shown : List ℕ) : Type 0 where
+-- the bytes of STIM that a listing reads
+abbrev pub stim_of : Lister → List ℕ
+stim_of l = l.cursor.stimulus.bytes.now
+
+pub record Stands (files : Files) (k : ℕ) (l : Lister) (panel program memory shown : List ℕ) : Type 0 where
   pub accepted : Accepted panel_limit files
-  pub stimulus : stim ≡ files.STIM
+  pub stimulus : stim_of l ≡ files.STIM
   pub left : k ≤ suc (end_time files.STIM)
   pub given : l.pieces ≡ k
   pub end : l.end.0 ≡ end_time files.STIM
@@ -36,14 +40,14 @@ pub record Stands (files : Files) (k : ℕ) (l : Lister) (stim panel program mem
   pub shown_size : length shown ≡ shown_length
 
 -- some files, and a number of pieces
-pub record Standing (l : Lister) (stim panel program memory shown : List ℕ) : Type 0 where
+pub record Standing (l : Lister) (panel program memory shown : List ℕ) : Type 0 where
   pub files : Files
   pub count : ℕ
-  pub stands : Stands files count l stim panel program memory shown
+  pub stands : Stands files count l panel program memory shown
 
 -- What a step gives, the last one too: the next piece in the first bytes of the buffer, all other bytes as they were; and the listing
 -- and the buffers after one piece more. Where it was not the last, the listing goes on.
-pub record Gives (files : Files) (k : ℕ) (lent : List ℕ) (p : Piece) (out stim panel program memory shown : List ℕ) : Type 0 where
+pub record Gives (files : Files) (k : ℕ) (lent : List ℕ) (p : Piece) (out panel program memory shown : List ℕ) : Type 0 where
   pub size : p.length ≡ length (piece_at files k)
   pub short : p.length ≤ piece_length
   pub bytes : out ≡ sets lent 0 (piece_at files k)
@@ -54,4 +58,4 @@ pub record Gives (files : Files) (k : ℕ) (lent : List ℕ) (p : Piece) (out st
   pub panel_is : panel ≡ panel_after files (suc k)
   pub memory_is : memory ≡ memory_after files (suc k)
   pub shown_is : shown ≡ shown_after files (suc k)
-  pub next : k ≤ end_time files.STIM → Stands files (suc k) p.lister stim panel program memory shown
+  pub next : k ≤ end_time files.STIM → Stands files (suc k) p.lister panel program memory shown

@@ -3,53 +3,57 @@
 #![tactic(auto)]
 
 ghost use Rattle.std.specs.Prelude.{◌≡◌, ℕ, ◌+◌};
-ghost use Rattle.model.specs.Files.{Files, files_of};
+ghost use Rattle.model.specs.Files.{Files};
 ghost use Rattle.model.specs.Acceptance.{panel_limit, Accepted};
 ghost use Rattle.model.specs.Stimulus.{stim_count};
+ghost use Rattle.file_bytes.specs.Bytes.{bytes_of};
 ghost use Rattle.listing.specs.Standing.{Stands, Standing, Gives};
 
 use buffers_memory::Memory;
 use buffers_tables::{Panel, Program};
 use clock::Cycle;
-use file_stim::Cursor;
+use file_bytes::FileBytes;
+use file_stim::{Cursor, Stimulus};
 use gates::TruthTables;
 use listing_cycle::{PieceLines, Shown};
+use machine_run::Readable;
+use machine_slot::Machine;
 use session_state::Session;
 
 // A listing on its way: the open session, the next line of STIM, T, and how many pieces were given.
 #[derive(Clone, Copy)]
-pub struct Lister {
+pub struct Lister<'a> {
     pub session: Session,
-    pub cursor: Cursor,
+    pub cursor: Cursor<'a>,
     pub end: Cycle,
     pub pieces: u32,
 }
 
 // A piece, which stands in the first bytes of a lent buffer and so is a length here, and the listing after it.
 #[derive(Clone, Copy)]
-pub struct Piece {
-    pub lister: Lister,
+pub struct Piece<'a> {
+    pub lister: Lister<'a>,
     pub length: usize,
 }
 
 // Opens the listing of accepted files, `lines` being the lines before STIM's end line. No value is shown yet.
-pub fn open(
-    net: &[u8],
-    modfile: &[u8],
-    stim: &[u8],
+pub fn open<'a>(
+    files: &FileBytes<'a>,
     lines: u16,
     panel: &mut Panel,
     program: &mut Program,
     memory: &mut Memory,
     shown: &mut Shown,
-) -> Lister
-    requires accepted { Accepted panel_limit (files_of net.now modfile.now stim.now) }
-    requires lines_value { lines ≡ stim_count stim.now }
-    ensures { Stands (files_of net.now modfile.now stim.now) 0 result stim.now panel.new program.new memory.new shown.new }
+) -> Lister<'a>
+    requires accepted { Accepted panel_limit (bytes_of files.now) }
+    requires lines_value { lines ≡ stim_count files.now.stim.now }
+    ensures { Stands (bytes_of files.now) 0 result panel.new program.new memory.new shown.new }
 {
-    buffers_load::load(net, modfile, stim, panel, program, memory);
-    buffers_lengths::fill(shown, 4);
+    buffers_load::load(files, panel, program, memory);
+    // 4 is no value, so that each is shown at time 0.
+    shown.fill(4);
     let session = session_state::decode(panel);
+    let stim = Stimulus { bytes: files.stim };
     let cursor = listing_cycle::first_later(stim);
     let end = listing_cycle::end_time(stim, lines);
     Lister {
@@ -67,21 +71,22 @@ pub fn piece_count(end: Cycle) -> u32
     u32::from(end.0) + 2
 }
 
-impl Lister {
-    // The next piece: time 0; or the settings of the next time, one cycle and its changes; or the last line.
+impl<'a> Lister<'a> {
+    // The next piece: time 0; or the settings of the next time, one cycle and its changes; or the last line. How many pieces were given says
+    // which. The definition goes by these three cases of one count (`piece_at`), and a closure for each would say no more.
+    // The buffers are lent at each step, some to be read and some to be written: there is no heap, and they are the caller's.
     // By `as`, in this file, where the bound is proved: no `From` has this conversion, and `TryFrom` has an error that cannot happen.
     pub fn step(
         self,
         tables: &TruthTables,
-        stim: &[u8],
         panel: &mut Panel,
         program: &Program,
         memory: &mut Memory,
         shown: &mut Shown,
         out: &mut PieceLines,
-    ) -> Piece
-        requires { Standing self stim.now panel.old program.now memory.old shown.old }
-        ensures { (files : Files) (k : ℕ) → Stands files k self stim.now panel.old program.now memory.old shown.old → Gives files k out.old result out.new stim.now panel.new program.now memory.new shown.new }
+    ) -> Piece<'a>
+        requires { Standing self panel.old program.now memory.old shown.old }
+        ensures { (files : Files) (k : ℕ) → Stands files k self.entry panel.old program.now memory.old shown.old → Gives files k out.old result out.new panel.new program.now memory.new shown.new }
     {
         if u32::from(self.end.0) < self.pieces {
             let length = writing::write_line(out, 0, &[self.end.0, 0, 0]);
@@ -93,13 +98,19 @@ impl Lister {
         }
         let time = Cycle(self.pieces as u16);
         if self.pieces == 0 {
-            let length = listing_cycle::write_changes(time, panel, memory, shown, out);
+            let length = listing_cycle::write_changes(
+                time,
+                &Readable { panel, memory },
+                shown,
+                out,
+            );
             let lister = Lister { pieces: 1, ..self };
             return Piece { lister, length };
         }
-        let settled = listing_cycle::take_settings(self.session, self.cursor, time, stim, panel);
-        let session = listing_cycle::run_one(tables, settled.session, panel, program, memory);
-        let length = listing_cycle::write_changes(time, panel, memory, shown, out);
+        let settled = listing_cycle::take_settings(self.session, self.cursor, time, panel);
+        let machine = Machine::new(tables, panel, program);
+        let session = listing_cycle::run_one(settled.session, &machine, memory);
+        let length = listing_cycle::write_changes(time, &Readable { panel, memory }, shown, out);
         let lister = Lister {
             session,
             cursor: settled.cursor,

@@ -82,6 +82,14 @@ module _ {n time : ℕ} {values old : ℕ → ℕ} {lent : List ℕ} {s at : ℕ
       now k lo hi (yes q) = rw q (get_or-set_same shown (s + 1) value 0 (omega (arith, w.size)) ∙ e)
       now k lo hi (no d) = get_or-set_other shown (s + 1) k value 0 d ∙ w.passed k lo (omega arith)
 
+  -- the same of the signals below the next one, s
+  pub next_more : {n' : ℕ} (value place : ℕ) (shown' out' : List ℕ) → n' ≡ s + 1 → n' ≤ n → n ≤ 4096 → value ≡ values n'
+      → place ≡ at + length (change_line time n' value (get_or shown n' 0))
+      → out' ≡ sets out at (change_line time n' value (get_or shown n' 0)) → shown' ≡ set shown n' value
+      → Written n time values old lent n' place shown' out'
+  next_more value place shown' out' e few most is length_is bytes stored =
+      rw e (written_more value place shown' out' (omega arith) (omega arith) (rw e at is) (rw e at length_is) (rw e at bytes) (rw e at stored))
+
   written_shown : shown ≡ shown_with s values old
   unfolding shown_with ◌and◌
   written_shown = is_listed shown shown_length _ w.size (λ k l. byte k (dec_lt 0 k) (dec_lt s k))
@@ -99,3 +107,7 @@ module _ {n time : ℕ} {values old : ℕ → ℕ} {lent : List ℕ} {s at : ℕ
         w.bytes ∙ ap (λ (k : ℕ). sets lent 0 (change_lines k time values old)) q,
         written_shown ∙ ap (λ (k : ℕ). shown_with k values old) q,
       )
+
+-- the signals before signal s are passed
+abbrev pub WrittenBefore : ℕ → ℕ → (ℕ → ℕ) → (ℕ → ℕ) → List ℕ → ℕ → ℕ → List ℕ → List ℕ → Type 0
+WrittenBefore n time values old lent s at shown out = (k : ℕ) × (s ≡ k + 1) × Written n time values old lent k at shown out

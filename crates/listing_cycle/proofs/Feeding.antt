@@ -27,7 +27,6 @@ use Rattle.session_state.proofs.Commands.{input_signal, input_kind, signal_low, 
 use Rattle.laws_kept.specs.InRange.{InRange}
 use Rattle.laws_kept.proofs.Panels.{replaced_code, replaced_else, head_in_range, same_ranged}
 use Rattle.file_stim.specs.declared.Line.{Line}
-use Rattle.file_stim.specs.declared.Cursor.{Cursor}
 use Rattle.file_stim.proofs.Steps.{GivenAt}
 use Rattle.listing_cycle.specs.Feeding.{Passed, PanelInputs, InHand, Fed}
 use Rattle.listing_cycle.specs.Cycling.{RightBuffers}
@@ -118,7 +117,7 @@ module _ {stim before : List ℕ} {t line : ℕ} {panel : List ℕ} {at : ℕ} (
   pub fed_signals : signals_in before ≤ 4096 → signals_in panel ≤ 4096
   fed_signals few = rw fed_fixed.signals few
 
-  module _ {given : Line} {next : Cursor} (g : GivenAt stim t at given next) where
+  module _ {given : Line} {next : ℕ} (g : GivenAt stim t at given next) where
     -- the value in hand after an accepted setting is what one line more gives
     hand_more : (n : Network) → (hand : ℕ → ℕ) → ((s : ℕ) → Signal n s → n.kind s ≡ input → hand s ≡ last_given stim t s at)
         → (s : ℕ) → Signal n s → n.kind s ≡ input → replaced hand given.signal given.value s ≡ last_given stim t s (suc at)
@@ -135,7 +134,7 @@ module _ {stim before : List ℕ} {t line : ℕ} {panel : List ℕ} {at : ℕ} (
     -- the panel that the setting leaves
     pub fed_more : signals_in before ≤ 4096 → (finished : ℕ) (watch : Watch) (after : List ℕ)
         → after ≡ with_hands (commanded panel [] [] (record { finished = finished; hand = hand_in panel; watch = watch }) (set given.signal given.value)).head.hand panel
-        → Fed stim before t line after next.line
+        → Fed stim before t line after next
     fed_more few finished watch after e =
         subst (λ (x : ℕ). Fed stim before t line after x) (sym (g.follows ∙ add-one at)) more
       where
@@ -212,12 +211,12 @@ pub record Skipped (stim : List ℕ) (line : ℕ) : Type 0 where
   pub few : line ≤ stim_count stim
   pub earlier : (k : ℕ) → k < line → stim_time stim k ≤ 0
 
-pub skipped_more : {stim : List ℕ} {line : ℕ} {given : Line} {next : Cursor} → Skipped stim line → GivenAt stim 0 line given next
-    → Skipped stim next.line
+pub skipped_more : {stim : List ℕ} {line : ℕ} {given : Line} {next : ℕ} → Skipped stim line → GivenAt stim 0 line given next
+    → Skipped stim next
 skipped_more {stim} {line} {next = next} so_far g =
     record { few = omega (arith, g.before_end, g.follows); earlier = λ k l. at k l (ℕ_discrete k line) }
   where
-    at : (k : ℕ) → k < next.line → Dec (k ≡ line) → stim_time stim k ≤ 0
+    at : (k : ℕ) → k < next → Dec (k ≡ line) → stim_time stim k ≤ 0
     at k l (yes q) = rw q (omega (arith, g.time_is))
     at k l (no d) = so_far.earlier k (omega (arith, g.follows))
 

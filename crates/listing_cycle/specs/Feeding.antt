@@ -11,11 +11,6 @@ use Rattle.session_state.specs.Carried.{Carries}
 use Rattle.buffers_tables.specs.Stores.{with_hands}
 use Rattle.session_state.specs.Commands.{input_in}
 
--- a STIM that some network accepts
-pub record Stimulus (stim : List ℕ) : Type 0 where
-  pub network : Network
-  pub passes : stim_check network stim ≡ pass
-
 -- the lines up to time t are passed
 pub record Passed (stim : List ℕ) (t line : ℕ) : Type 0 where
   pub few : line ≤ stim_count stim

@@ -2,21 +2,22 @@
 
 #![tactic(auto)]
 
-ghost use Rattle.std.specs.Prelude.{◌≡◌, ℕ, ◌+◌, ◌≤◌, ◌<◌, length, get_or, set};
+ghost use Rattle.std.specs.Prelude.{◌≡◌, ◌+◌, ◌≤◌, ◌<◌, length, get_or, set};
 ghost use Rattle.std.proofs.lemmas.List.Edits.{sets};
 ghost use Rattle.model.specs.Stimulus.{stim_time, stim_count, end_time};
-ghost use Rattle.buffers_memory.specs.Memory.{memory_of, with_memory, MemoryBytes};
-ghost use Rattle.buffers_tables.specs.Panel.{signals_in, processors_in, slots_in, processor_in};
+ghost use Rattle.buffers_memory.specs.Memory.{memory_of, with_memory};
+ghost use Rattle.buffers_tables.specs.Panel.{signals_in, processors_in, slots_in};
 ghost use Rattle.machine_run.specs.Running.{cycle_in};
 ghost use Rattle.listing_cycle.specs.Changes.{value_held, change_line, change_lines, shown_with};
-ghost use Rattle.listing_cycle.specs.Feeding.{Stimulus, Passed, Fed, SameNumbers};
+ghost use Rattle.listing_cycle.specs.Feeding.{Passed, Fed, SameNumbers};
 ghost use Rattle.listing_cycle.specs.Cycling.{Ready, OneMore};
 
 use buffers_memory::Memory;
-use buffers_tables::{Panel, Program};
+use buffers_tables::Panel;
 use clock::Cycle;
-use file_stim::Cursor;
-use gates::TruthTables;
+use file_stim::{Cursor, Stimulus};
+use machine_run::Readable;
+use machine_slot::Machine;
 use session_state::Session;
 
 // The values last shown, by signal.
@@ -27,9 +28,9 @@ pub type PieceLines = [u8; 77824];
 
 // A session that has its settings for a cycle, and the line of STIM after them.
 #[derive(Clone, Copy)]
-pub struct Settled {
+pub struct Settled<'a> {
     pub session: Session,
-    pub cursor: Cursor,
+    pub cursor: Cursor<'a>,
 }
 
 // The line of a signal, where its value is not the one last shown; the place after it. Numbers are widened by `as`: by `From`, the proofs
@@ -59,70 +60,67 @@ fn write_change(
 // "each whose value differs from the time before, by time and signal". Before time 0 no value is shown, so that all differ.
 pub fn write_changes(
     time: Cycle,
-    panel: &Panel,
-    memory: &Memory,
+    readable: &Readable,
     shown: &mut Shown,
     out: &mut PieceLines,
 ) -> usize
-    requires signals_high { signals_in panel.now ≤ 4096 }
-    requires processors_low { (s : ℕ) → 1 ≤ s → s ≤ signals_in panel.now → processor_in panel.now s < 16 }
-    requires memory_bytes { MemoryBytes memory.now }
-    ensures value { result ≡ length (change_lines (signals_in panel.now) time.0 (value_held panel.now memory.now) (λ s. get_or shown.old s 0)) }
-    ensures out_after { out.new ≡ sets out.old 0 (change_lines (signals_in panel.now) time.0 (value_held panel.now memory.now) (λ s. get_or shown.old s 0)) }
-    ensures shown_after { shown.new ≡ shown_with (signals_in panel.now) (value_held panel.now memory.now) (λ s. get_or shown.old s 0) }
+    ensures value { result ≡ length (change_lines (signals_in readable.now.panel.now) time.0 (value_held readable.now.panel.now readable.now.memory.now) (λ s. get_or shown.old s 0)) }
+    ensures out_after { out.new ≡ sets out.old 0 (change_lines (signals_in readable.now.panel.now) time.0 (value_held readable.now.panel.now readable.now.memory.now) (λ s. get_or shown.old s 0)) }
+    ensures shown_after { shown.new ≡ shown_with (signals_in readable.now.panel.now) (value_held readable.now.panel.now readable.now.memory.now) (λ s. get_or shown.old s 0) }
 {
-    let signals = buffers_tables::signals(panel);
     let mut at: usize = 0;
-    for passed in 0..signals {
-        let s = passed + 1;
-        let value = machine_run::value_of(panel, memory, s);
+    for s in 1..=buffers_tables::signals(readable.panel) {
+        let value = readable.value_of(s);
         at = write_change(time, s, value, at, shown, out);
     }
     at
 }
 
 // The first line of STIM after those of time 0, which the opening used.
-pub fn first_later(stim: &[u8]) -> Cursor
-    requires { Stimulus stim.now }
-    ensures { Passed stim.now 0 result.line }
+pub fn first_later(stim: Stimulus) -> Cursor
+    ensures same_stimulus { result.stimulus ≡ stim.entry }
+    ensures passed { Passed stim.entry.bytes.now 0 result.line }
 {
-    let mut cursor = Cursor { line: 0 };
-    while let Some((_, next)) = cursor.next_of(stim, Cycle(0)) {
+    let mut cursor = Cursor {
+        stimulus: stim,
+        line: 0,
+    };
+    while let Some((_, next)) = cursor.next_of(Cycle(0)) {
         cursor = next;
     }
     cursor
 }
 
-// T, from the end line.
-pub fn end_time(stim: &[u8], lines: u16) -> Cycle
-    requires stimulus { Stimulus stim.now }
-    requires lines_value { lines ≡ stim_count stim.now }
-    ensures { result.0 ≡ end_time stim.now }
+// T, from the end line. How many lines are before it is handed down from the check of STIM, which counted them: a struct of STIM and the
+// count would be made for this one use.
+#[tactic(auto, unfolding(model::specs::Stimulus::end_time))]
+pub fn end_time(stim: Stimulus, lines: u16) -> Cycle
+    requires lines_value { lines ≡ stim_count stim.bytes.now }
+    ensures { result.0 ≡ end_time stim.entry.bytes.now }
 {
     let last = Cursor {
+        stimulus: stim,
         line: usize::from(lines),
     };
-    last.here(stim).time
+    last.here().time
 }
 
 // The settings of a time, each an accepted command of the session, which writes its value into the panel.
-pub fn take_settings(
+pub fn take_settings<'a>(
     session: Session,
-    cursor: Cursor,
+    cursor: Cursor<'a>,
     time: Cycle,
-    stim: &[u8],
     panel: &mut Panel,
-) -> Settled
-    requires stimulus { Stimulus stim.now }
-    requires line_bound { cursor.line ≤ stim_count stim.now }
+) -> Settled<'a>
     requires signals_high { signals_in panel.old ≤ 4096 }
-    ensures fed { Fed stim.now panel.old time.0 cursor.line panel.new result.cursor.line }
-    ensures no_more { result.cursor.line < stim_count stim.now → stim_time stim.now result.cursor.line ≡ time.0 → ⊥ }
+    ensures same_stimulus { result.cursor.stimulus ≡ cursor.entry.stimulus }
+    ensures fed { Fed cursor.entry.stimulus.bytes.now panel.old time.0 cursor.entry.line panel.new result.cursor.line }
+    ensures no_more { result.cursor.line < stim_count cursor.entry.stimulus.bytes.now → stim_time cursor.entry.stimulus.bytes.now result.cursor.line ≡ time.0 → ⊥ }
     ensures same_numbers { SameNumbers session result.session }
 {
     let mut session = session;
     let mut cursor = cursor;
-    while let Some((line, next)) = cursor.next_of(stim, time) {
+    while let Some((line, next)) = cursor.next_of(time) {
         let told = session.set(panel, u32::from(line.signal), u32::from(line.value));
         session = told.session;
         cursor = next;
@@ -131,17 +129,11 @@ pub fn take_settings(
 }
 
 // One cycle with the values in hand: "run k cycles" with k = 1 and a mask that watches nothing.
-pub fn run_one(
-    tables: &TruthTables,
-    session: Session,
-    panel: &Panel,
-    program: &Program,
-    memory: &mut Memory,
-) -> Session
-    requires { Ready session panel.now program.now memory.old }
+pub fn run_one(session: Session, machine: &Machine, memory: &mut Memory) -> Session
+    requires { Ready session machine.now.panel.now machine.now.program.now memory.old }
     ensures one_more { OneMore session result }
-    ensures memory_after { memory.new ≡ with_memory (processors_in panel.now) (slots_in panel.now) (cycle_in panel.now program.now (memory_of memory.old)) memory.old }
+    ensures memory_after { memory.new ≡ with_memory (processors_in machine.now.panel.now) (slots_in machine.now.panel.now) (cycle_in machine.now.panel.now machine.now.program.now (memory_of memory.old)) memory.old }
 {
-    let told = session.run(tables, panel, program, memory, 1);
+    let told = session.run(machine, memory, 1);
     told.session
 }

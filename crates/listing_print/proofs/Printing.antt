@@ -1,7 +1,7 @@
 -- The listing stands by the files until its last piece is given, and every part that is handed over is the next one of what is printed.
 use Prim.Native.Nat.{ℕ, suc, ◌+◌, ◌<◌, ◌≤◌}
 use mathlib.Core.Path.{◌≡◌, refl, sym, subst, ◌∙◌, ap}
-use mathlib.Core.Bool.{Bool, true, false, false≢true}
+use mathlib.Core.Bool.{true, false, false≢true}
 use mathlib.Core.List.{List, append_assoc}
 use native.Mathlib.Omega.{arith}
 use lib.ListN.{length, take}
@@ -9,8 +9,7 @@ use lib.Seq.{sets, sets-eq, length-sets, take-append_seam}
 use Rattle.model.specs.Refusal.{Check, pass, fail}
 use Rattle.model.specs.Files.{Files}
 use Rattle.model.specs.Acceptance.{panel_limit, network_of, file_check, Accepted}
-use Rattle.std.specs.Prelude.{Result}
-use Rattle.file_lines.specs.Answer.{answered}
+use Rattle.std.specs.Prelude.{Result, Ok, Err, MatchResult, is_err}
 use Rattle.file_checks.specs.declared.FileRefusal.{FileRefusal}
 use Rattle.file_checks.specs.Answer.{file_refusal}
 use Rattle.listing.specs.declared.Lister.{Lister}
@@ -19,10 +18,12 @@ use Rattle.listing_cycle.specs.Changes.{piece_length}
 use Rattle.file_checks.specs.Refused.{refused_text}
 use Rattle.listing.specs.Pieces.{piece_count, piece_at}
 use Rattle.listing.specs.Standing.{Stands, Standing, Gives}
-use Rattle.file_checks.proofs.Refused.{refused_short}
+use Rattle.file_checks.proofs.Refused.{refused_short, not_passed}
 use Rattle.model.proofs.Accepted.{stim_accepted}
 use Rattle.listing.proofs.Standing.{end_small}
-use Rattle.listing_print.specs.Handing.{part_for, part_at, count_for, part_count, parts_after, Handing}
+use Rattle.listing_print.specs.Handing.{part_for, part_at, count_for, part_count, parts_of, Handing}
+use Rattle.listing_print.specs.declared.Printed.{Printed}
+use Rattle.listing_print.specs.declared.CutShort.{CutShort}
 
 -- the first bytes of a buffer that a text was written into
 pub written : (text lent out : List ℕ) (n : ℕ) → out ≡ sets lent 0 text → n ≡ length text → length text ≤ length lent → take n out ≡ text
@@ -67,77 +68,62 @@ parts_few files k = go (file_check panel_limit files) refl
     go (fail number returned) e h = omega (arith, h)
 
 -- all parts are written
-handed_all : {files : Files} {parts : ℕ} {failed : Bool} → parts ≡ part_count files → failed ≡ false → Handing files parts failed
-handed_all e unfailed = record { few = omega (arith, e); whole = λ q. e; cut = λ q. absurd (false≢true (sym unfailed ∙ q)) }
+handed_all : {files : Files} {parts : ℕ} → parts ≡ part_count files → Handing files parts false
+handed_all e = record { few = omega (arith, e); whole = λ q. e; cut = λ q. absurd (false≢true q) }
 
--- one part more was handed over, the count and the failure being as the writer leaves them: it was written
-one_more : (parts : ℕ) {parts' : ℕ} {failed : Bool} → parts' ≡ parts_after parts failed → failed ≡ false → parts' ≡ parts + 1
-one_more parts counts e = counts ∙ ap (parts_after parts) e
+-- the next part could not be written
+handed_cut : {files : Files} {parts : ℕ} → parts < part_count files → Handing files parts true
+handed_cut left = record { few = omega (arith, left); whole = λ q. absurd (false≢true (sym q)); cut = λ q. left }
 
--- it could not be written
-pub handed_cut : {files : Files} (parts : ℕ) {parts' : ℕ} {failed : Bool} → parts' ≡ parts_after parts failed → failed ≡ true → parts < part_count files
-    → Handing files parts' failed
-handed_cut parts {parts'} counts e left =
-    let same : parts' ≡ parts = counts ∙ ap (parts_after parts) e in
-    record { few = omega (arith, same, left); whole = λ q. absurd (false≢true (sym q ∙ e)); cut = λ q. omega (arith, same, left) }
+-- the last part was handed over, and written or not
+handed_last : {files : Files} (parts : ℕ) → parts + 1 ≡ part_count files → (r : Result Printed CutShort)
+    → MatchResult r (λ printed. printed.parts ≡ parts + 1) (λ cut. cut.parts ≡ parts) → Handing files (parts_of r) (is_err r)
+handed_last parts last (Ok printed) counts = handed_all (counts ∙ last)
+handed_last parts last (Err cut) counts = handed_cut (omega (arith, counts, last))
 
--- it was the last one, written or not
-handed_last : {files : Files} (parts : ℕ) {parts' : ℕ} {failed : Bool} → parts' ≡ parts_after parts failed → parts + 1 ≡ part_count files
-    → Handing files parts' failed
-handed_last {files} parts {parts'} {failed} counts last = go failed refl
-  where
-    go : (b : Bool) → failed ≡ b → Handing files parts' failed
-    go false e = handed_all (one_more parts counts e ∙ last) e
-    go true e = handed_cut parts counts e (omega (arith, last))
-
-module _ (files : Files) (a : Result (Unit {0}) FileRefusal) (is : answered file_refusal a ≡ file_check panel_limit files)
-    (refused : answered file_refusal a ≡ pass → ⊥) where
-  pub refusal_part : (k : ℕ) → refused_text (answered file_refusal a) ≡ part_at files k
-  refusal_part = (refused_part files (answered file_refusal a) (file_check panel_limit files) is refused).0
+module _ (files : Files) (refusal : FileRefusal) (is : file_refusal refusal ≡ file_check panel_limit files) where
+  pub refusal_part : (k : ℕ) → refused_text (file_refusal refusal) ≡ part_at files k
+  refusal_part = (refused_part files (file_refusal refusal) (file_check panel_limit files) is (not_passed refusal)).0
 
   pub refusal_count : 1 ≡ part_count files
-  refusal_count = (refused_part files (answered file_refusal a) (file_check panel_limit files) is refused).1
+  refusal_count = (refused_part files (file_refusal refusal) (file_check panel_limit files) is (not_passed refusal)).1
 
-  pub refusal_handed : (parts parts' : ℕ) (failed : Bool) → parts ≡ 0 → parts' ≡ parts_after parts failed → Handing files parts' failed
-  refusal_handed parts parts' failed none counts = handed_last parts counts (omega (arith, none, refusal_count))
+  pub refusal_handed : (parts : ℕ) → parts ≡ 0 → (r : Result Printed CutShort)
+      → MatchResult r (λ printed. printed.parts ≡ parts + 1) (λ cut. cut.parts ≡ parts) → Handing files (parts_of r) (is_err r)
+  refusal_handed parts none = handed_last parts (omega (arith, none, refusal_count))
 
--- A listing underway: as many parts are written as turns are done, none failed, and the listing stands at the next one.
-pub record Underway (files : Files) (count : ℕ) (l : Lister) (stim panel program memory shown piece : List ℕ) (parts : ℕ) (failed : Bool) (turns : ℕ)
+-- A listing underway: as many parts are written as turns are done, and the listing stands at the next one.
+pub record Underway (files : Files) (count : ℕ) (l : Lister) (panel program memory shown piece : List ℕ) (parts turns : ℕ)
     : Type 0 where
   pub counted : count ≡ part_count files
   pub room : length piece ≡ piece_length
   pub accepted : Accepted panel_limit files
   pub each : turns ≡ parts
   pub few : turns ≤ count
-  pub unfailed : failed ≡ false
-  pub stands : turns < count → Stands files parts l stim panel program memory shown
+  pub stands : turns < count → Stands files parts l panel program memory shown
 
-pub starts : {files : Files} {l : Lister} {stim panel program memory shown : List ℕ} → Stands files 0 l stim panel program memory shown
-    → {count : ℕ} → count ≡ l.end.0 + 2 → {piece : List ℕ} → length piece ≡ piece_length → {parts : ℕ} → parts ≡ 0 → {failed : Bool} → failed ≡ false
-    → Underway files count l stim panel program memory shown piece parts failed 0
-starts {files} {l} {stim} {panel} {program} {memory} {shown} s e room none unfailed =
+pub starts : {files : Files} {l : Lister} {panel program memory shown : List ℕ} → Stands files 0 l panel program memory shown
+    → {count : ℕ} → count ≡ l.end.0 + 2 → {piece : List ℕ} → length piece ≡ piece_length → {parts : ℕ} → parts ≡ 0
+    → Underway files count l panel program memory shown piece parts 0
+starts {files} {l} {panel} {program} {memory} {shown} s e room none =
     record {
       counted = e ∙ ap (λ (x : ℕ). x + 2) s.end ∙ count_is files s.accepted;
       room = room;
       accepted = s.accepted;
       each = sym none;
       few = omega arith;
-      unfailed = unfailed;
-      stands = λ h. subst (λ (k : ℕ). Stands files k l stim panel program memory shown) (sym none) s;
+      stands = λ h. subst (λ (k : ℕ). Stands files k l panel program memory shown) (sym none) s;
     }
 
-module _ {files : Files} {count : ℕ} {l : Lister} {stim panel program memory shown piece : List ℕ} {parts : ℕ} {failed : Bool} {turns : ℕ}
-    (so_far : Underway files count l stim panel program memory shown piece parts failed turns) where
+module _ {files : Files} {count : ℕ} {l : Lister} {panel program memory shown piece : List ℕ} {parts turns : ℕ}
+    (so_far : Underway files count l panel program memory shown piece parts turns) where
   module _ (more : turns < count) where
-    pub left : parts < part_count files
-    left = omega (arith, more, so_far.each, so_far.counted)
-
-    pub standing : Standing l stim panel program memory shown
+    pub standing : Standing l panel program memory shown
     standing = record { files = files; count = parts; stands = so_far.stands more }
 
     module _ {p : Piece} {piece' panel' memory' shown' : List ℕ}
-        (step : (f : Files) (k : ℕ) → Stands f k l stim panel program memory shown → Gives f k piece p piece' stim panel' program memory' shown') where
-      gives : Gives files parts piece p piece' stim panel' program memory' shown'
+        (step : (f : Files) (k : ℕ) → Stands f k l panel program memory shown → Gives f k piece p piece' panel' program memory' shown') where
+      gives : Gives files parts piece p piece' panel' program memory' shown'
       gives = step files parts (so_far.stands more)
 
       pub gives_next : take p.length piece' ≡ part_at files parts
@@ -145,17 +131,15 @@ module _ {files : Files} {count : ℕ} {l : Lister} {stim panel program memory s
           written (piece_at files parts) piece piece' p.length gives.bytes gives.size (omega (arith, gives.size, gives.short, so_far.room))
           ∙ part_is files so_far.accepted parts
 
-      pub goes_on : {parts' : ℕ} {failed' : Bool} → parts' ≡ parts_after parts failed' → failed' ≡ false
-          → Underway files count p.lister stim panel' program memory' shown' piece' parts' failed' (turns + 1)
-      goes_on {parts'} counts unfailed =
-          let next : parts' ≡ suc parts = omega (arith, one_more parts counts unfailed) in
+      pub goes_on : {parts' : ℕ} → parts' ≡ parts + 1 → Underway files count p.lister panel' program memory' shown' piece' parts' (turns + 1)
+      goes_on {parts'} counts =
+          let next : parts' ≡ suc parts = omega (arith, counts) in
           record {
             counted = so_far.counted;
             room = rw gives.bytes (omega (arith, length-sets piece 0 (piece_at files parts), so_far.room));
             accepted = so_far.accepted;
             each = omega (arith, next, so_far.each);
             few = omega (arith, more);
-            unfailed = unfailed;
-            stands = λ h. subst (λ (k : ℕ). Stands files k p.lister stim panel' program memory' shown') (sym next)
+            stands = λ h. subst (λ (k : ℕ). Stands files k p.lister panel' program memory' shown') (sym next)
                 (gives.next (omega (arith, h, so_far.each, so_far.counted, count_is files so_far.accepted)));
           }

@@ -1,21 +1,17 @@
 -- What the program hands to its one writer for the bytes that it read of the files: the pieces of the listing in order, or the one line of
 -- the refusal.
-use Rattle.std.specs.Prelude.{ℕ, ◌+◌, ◌≤◌, ◌<◌, ◌≡◌, Bool, true, false, List}
+use Rattle.std.specs.Prelude.{ℕ, ◌≤◌, ◌<◌, ◌≡◌, Bool, true, false, List, Result, Ok, Err}
 use Rattle.model.specs.Refusal.{Check, pass, fail}
-use Rattle.model.specs.Files.{Files, files_of}
+use Rattle.model.specs.Files.{Files}
 use Rattle.model.specs.Acceptance.{panel_limit, file_check}
 use Rattle.model.specs.Listing.{refusal_line}
 use Rattle.listing.specs.Pieces.{piece_count, piece_at}
-use Rattle.listing_print.specs.declared.ReadFiles.{ReadFiles}
 use Rattle.listing_print.specs.declared.Printed.{Printed}
-
--- the files that were read, as the model has them
-abbrev pub bytes_of : ReadFiles → Files
-bytes_of files = files_of files.net.now files.modfile.now files.stim.now
+use Rattle.listing_print.specs.declared.CutShort.{CutShort}
 
 -- nothing is handed over yet
 abbrev pub unprinted : Printed
-unprinted = record { parts = 0; failed = false }
+unprinted = record { parts = 0 }
 
 unfoldable pub part_for : Check → Files → ℕ → List ℕ
 part_for pass files k = piece_at files k
@@ -31,10 +27,10 @@ count_for (fail number returned) files = 1
 abbrev pub part_count : Files → ℕ
 part_count files = count_for (file_check panel_limit files) files
 
--- the parts written, one more having been handed over: it counts unless its writing failed
-abbrev pub parts_after : ℕ → Bool → ℕ
-parts_after parts false = parts + 1
-parts_after parts true = parts
+-- how many parts are written, whether or not the writing of the next one failed
+abbrev pub parts_of : Result Printed CutShort → ℕ
+parts_of (Ok printed) = printed.parts
+parts_of (Err cut) = cut.parts
 
 -- Parts were handed over from the first on, and `parts` counts those that were written: all, unless the writing of the next one failed
 pub record Handing (files : Files) (parts : ℕ) (failed : Bool) : Type 0 where

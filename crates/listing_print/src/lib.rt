@@ -2,57 +2,51 @@
 
 #![tactic(auto)]
 
-ghost use Rattle.std.specs.Prelude.{◌≡◌, false, ◌<◌, replicate};
-ghost use Rattle.model.specs.Refusal.{pass};
+ghost use Rattle.std.specs.Prelude.{◌≡◌, ◌+◌, ◌<◌, replicate, is_err, MatchResult};
 ghost use Rattle.model.specs.Acceptance.{panel_limit, file_check, Accepted};
 ghost use Rattle.model.specs.Stimulus.{stim_count};
-ghost use Rattle.file_lines.specs.Answer.{answered};
+ghost use Rattle.file_bytes.specs.Bytes.{bytes_of};
 ghost use Rattle.file_checks.specs.Answer.{file_refusal};
-ghost use Rattle.listing_print.specs.Handing.{bytes_of, unprinted, part_at, part_count, parts_after, Handing};
+ghost use Rattle.listing_print.specs.Handing.{unprinted, part_at, part_count, parts_of, Handing};
 
 use buffers_memory::MEMORY_BYTES;
 use buffers_tables::{PANEL_BYTES, PROGRAM_BYTES};
+use file_bytes::FileBytes;
 use file_checks::FileRefusal;
 use gates::TruthTables;
 
-// The bytes that were read of each file.
-#[derive(Clone, Copy)]
-pub struct ReadFiles<'a> {
-    pub net: &'a [u8],
-    pub modfile: &'a [u8],
-    pub stim: &'a [u8],
-}
-
-// How many parts are written of what is printed, and whether one could not be. It is lent from part to part and never copied, since a
-// part could be handed over twice.
+// How many parts are written of what is printed. The writer takes it by value and gives it back, one more, only for a part that was
+// written: it is never copied, so that no part is handed over twice, and none after one that could not be written. That nothing was printed
+// before is asked of it by all who print.
 #[derive(Drop)]
 pub struct Printed {
     pub parts: u32,
-    pub failed: bool,
+}
+
+// A part could not be written: how many were before it.
+#[derive(Clone, Copy)]
+pub struct CutShort {
+    pub parts: u32,
 }
 
 impl Printed {
     pub fn new() -> Printed
         ensures { result ≡ unprinted }
     {
-        Printed {
-            parts: 0,
-            failed: false,
-        }
+        Printed { parts: 0 }
     }
 
-    // The one writer. It takes the next part of what is printed for the files that were read, no other; it counts a part that was
-    // written and tells one that could not be.
-    fn put(&mut self, rt: &impl Print, files: &ReadFiles, part: &[u8])
-        requires part_value { part.now ≡ part_at (bytes_of files.now) self.old.parts }
-        requires parts_bound { self.old.parts < part_count (bytes_of files.now) }
-        requires unfailed { self.old.failed ≡ false }
-        ensures counted { self.new.parts ≡ parts_after self.old.parts self.new.failed }
+    // The one writer. It takes the next part of what is printed for the files that were read, no other, and counts it if it was written.
+    fn put(mut self, rt: &impl Print, files: &FileBytes, part: &[u8]) -> Result<Printed, CutShort>
+        requires part_value { part.now ≡ part_at (bytes_of files.now) self.parts }
+        requires parts_bound { self.parts < part_count (bytes_of files.now) }
+        ensures counted { MatchResult result (λ printed. printed.parts ≡ self.parts + 1) (λ cut. cut.parts ≡ self.parts) }
     {
         match rt.write_all(part) {
             Ok(()) => self.parts += 1,
-            Err(_) => self.failed = true,
+            Err(_) => return Err(CutShort { parts: self.parts }),
         }
+        Ok(self)
     }
 }
 
@@ -63,29 +57,34 @@ pub fn zeroed<const N: usize>() -> [u8; N]
     [0; N]
 }
 
-// "prints one line of two fields, number and returned value".
+// "prints one line of two fields, number and returned value". Nothing allocates, so that the text goes into a buffer and has its length
+// beside it.
 pub fn print_refusal(
     rt: &impl Print,
-    files: &ReadFiles,
-    answer: Result<(), FileRefusal>,
-    printed: &mut Printed,
-)
-    requires answer_value { answered file_refusal answer ≡ file_check panel_limit (bytes_of files.now) }
-    requires refused { answered file_refusal answer ≡ pass → ⊥ }
-    requires nothing_yet { printed.old ≡ unprinted }
-    ensures handed { Handing (bytes_of files.now) printed.new.parts printed.new.failed }
+    files: &FileBytes,
+    refusal: FileRefusal,
+    printed: Printed,
+) -> Result<Printed, CutShort>
+    requires refusal_value { file_refusal refusal ≡ file_check panel_limit (bytes_of files.now) }
+    requires nothing_yet { printed ≡ unprinted }
+    ensures handed { Handing (bytes_of files.now) (parts_of result) (is_err result) }
 {
     let mut line = [0; 13];
-    let length = file_checks::write_refusal(answer, &mut line);
-    printed.put(rt, files, &line[..length]);
+    let length = file_checks::write_refusal(Err(refusal), &mut line);
+    printed.put(rt, files, &line[..length])
 }
 
 // The listing, piece by piece, until one can not be written. The tables of the gates are made once and lent to every step.
-pub fn print_listing(rt: &impl Print, files: &ReadFiles, lines: u16, printed: &mut Printed)
+pub fn print_listing(
+    rt: &impl Print,
+    files: &FileBytes,
+    lines: u16,
+    mut printed: Printed,
+) -> Result<Printed, CutShort>
     requires accepted { Accepted panel_limit (bytes_of files.now) }
     requires lines_value { lines ≡ stim_count files.now.stim.now }
-    requires nothing_yet { printed.old ≡ unprinted }
-    ensures handed { Handing (bytes_of files.now) printed.new.parts printed.new.failed }
+    requires nothing_yet { printed ≡ unprinted }
+    ensures handed { Handing (bytes_of files.now) (parts_of result) (is_err result) }
 {
     let tables = TruthTables::new();
     let mut panel = zeroed::<PANEL_BYTES>();
@@ -94,9 +93,7 @@ pub fn print_listing(rt: &impl Print, files: &ReadFiles, lines: u16, printed: &m
     let mut shown = [0; 4097];
     let mut piece = zeroed::<77824>();
     let mut lister = listing::open(
-        files.net,
-        files.modfile,
-        files.stim,
+        files,
         lines,
         &mut panel,
         &mut program,
@@ -107,17 +104,14 @@ pub fn print_listing(rt: &impl Print, files: &ReadFiles, lines: u16, printed: &m
     for _ in 0..count {
         let next = lister.step(
             &tables,
-            files.stim,
             &mut panel,
             &program,
             &mut memory,
             &mut shown,
             &mut piece,
         );
-        printed.put(rt, files, &piece[..next.length]);
-        if printed.failed {
-            return;
-        }
+        printed = printed.put(rt, files, &piece[..next.length])?;
         lister = next.lister;
     }
+    Ok(printed)
 }

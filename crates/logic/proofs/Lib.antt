@@ -1,6 +1,5 @@
 pub mod Tests
 pub mod Judged
-pub mod Loops
 pub mod Any
 pub mod Totals
 pub mod Pigeon
@@ -8,3 +7,4 @@ pub mod Counts
 pub mod Listed
 pub mod Filling
 pub mod Ranges
+pub mod Numbered

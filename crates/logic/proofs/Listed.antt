@@ -3,7 +3,8 @@ use Prim.Native.Nat.{ℕ, zero, suc, ◌<◌}
 use mathlib.Core.Path.{◌≡◌, refl, ◌∙◌, ap}
 use mathlib.Core.List.{List, [], ◌∷◌, ◌++◌}
 use native.Mathlib.Omega.{arith}
-use lib.ListN.{length, get_or}
+use lib.ListN.{length, get_or, replicate}
+use Rattle.std.proofs.lemmas.List.{get_or-replicate, length-replicate}
 use Rattle.logic.specs.Listed.{listed}
 
 pub listed_length : (n : ℕ) (f : ℕ → ℕ) → length (listed n f) ≡ n
@@ -33,6 +34,10 @@ is_listed (x ∷ l) (suc n) f e h =
     let rest : l ≡ listed n (λ k. f (suc k)) = is_listed l n (λ k. f (suc k)) (omega arith) (λ i b. h (suc i) (omega arith)) in
     let head : x ≡ f 0 = h 0 (omega arith) in
     ap (λ (y : ℕ). y ∷ l) head ∙ ap (λ (r : List ℕ). f 0 ∷ r) rest
+
+-- one value throughout, as the library's `fill` leaves it
+pub filled : (n v : ℕ) → replicate n v ≡ listed n (λ k. v)
+filled n v = is_listed (replicate n v) n (λ k. v) (length-replicate n v) (λ i low. get_or-replicate n i v 0 low)
 
 -- elements that agree below n
 pub listed_same : (n : ℕ) (f g : ℕ → ℕ) → ((i : ℕ) → i < n → f i ≡ g i) → listed n f ≡ listed n g

@@ -29,7 +29,7 @@ all_front p zero = go (p 0)
 all_front p (suc n) = ap (λ (b : Bool). b and p (suc n)) (all_front p n) ∙ and_assoc (p 0) (all n (λ k. p (suc k))) (p (suc n))
 
 -- the tests of the numbers from a on, the first first, or the last first
-by_first : (p : ℕ → Bool) (n a : ℕ) → list_all p (range_with_len a n) ≡ all n (λ k. p (a + k))
+pub by_first : (p : ℕ → Bool) (n a : ℕ) → list_all p (range_with_len a n) ≡ all n (λ k. p (a + k))
 unfolding all ◌and◌
 by_first p zero a = refl
 by_first p (suc n) a =

@@ -5,8 +5,6 @@ use mathlib.Core.Bool.{Bool, true, false}
 use mathlib.Core.List.{List}
 use native.Mathlib.Omega.{arith}
 use native.Mathlib.Numerals.{add-one}
-use lib.Dec.{eqb}
-use borrow.Author.Tests.{eqb-true, eqb-false}
 use lib.ListN.{length}
 use Rattle.model.specs.Network.{Network}
 use Rattle.model.specs.Module.{Module, At, Laid}
@@ -101,13 +99,6 @@ module _ (n : Network) (m : Module) (laid : Laid n m) (few : m.processors ≤ 16
 
     abbrev Quiet : ℕ → Type 0
     Quiet j = QuietTo (cycle n m row) stops (memory_of old) j
-
-    pub quiet_more : (j : ℕ) → Quiet j → stops (after (j + 1)) ≡ false → Quiet (j + 1)
-    quiet_more j quiet next i a b = go (eqb i (j + 1)) refl
-      where
-        go : (t : Bool) → eqb i (j + 1) ≡ t → stops (after i) ≡ false
-        go true e = ap (λ (x : ℕ). stops (after x)) (eqb-true i (j + 1) e) ∙ next
-        go false e = let d = eqb-false i (j + 1) e in quiet i a (omega arith)
 
     pub ran_stopped : (j : ℕ) (r : List ℕ) → j + 1 ≤ k → Quiet j → r ≡ with_memory m.processors m.slots (after (j + 1)) old → stops (after (j + 1)) ≡ true
         → (j + 1 ≡ ran.count) × (true ≡ ran.stopped) × (r ≡ with_memory m.processors m.slots ran.state old)

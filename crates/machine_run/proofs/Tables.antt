@@ -3,6 +3,8 @@ use Prim.Native.Nat.{ℕ, ◌+◌, ◌<◌, ◌≤◌}
 use mathlib.Core.Path.{◌≡◌}
 use mathlib.Core.Bool.{Bool, true, false}
 use mathlib.Core.List.{List}
+use native.Mathlib.Omega.{arith}
+use native.Mathlib.Decide.{ℕ_discrete}
 use lib.ListN.{length}
 use Rattle.model.specs.Module.{Module}
 use Rattle.model.specs.Machine.{Memory, slot, slots, alternate}
@@ -16,7 +18,7 @@ use Rattle.buffers_tables.specs.Tables.{Tables, network_in, module_in}
 use Rattle.buffers_tables.proofs.Codes.{gates_small, hands_small}
 use Rattle.machine_run.specs.Running.{cycle_in, value_in, run_in, Watching}
 use Rattle.machine_run.proofs.Cycles as law
-use Rattle.machine_run.proofs.Cycles.{QuietTo, cycles_none, cycles_more, stop_told, quiet_more, ran_stopped, ran_whole}
+use Rattle.machine_run.proofs.Cycles.{QuietTo, cycles_none, cycles_more, stop_told, ran_stopped, ran_whole}
 
 module _ {panel program : List ℕ} (t : Tables panel program) (old : List ℕ) where
   -- the memory after j cycles
@@ -90,9 +92,11 @@ module _ {panel program : List ℕ} (t : Tables panel program) (old : List ℕ) 
         (processor_in panel) (slot_in panel) watch.signal (record { processor = range.processor_low; slot = range.slot_low }) j _ _ _
 
     pub still_quiet : (j : ℕ) → Quiet j → stops (after (j + 1)) ≡ false → Quiet (j + 1)
-    unfolding module_in
-    still_quiet =
-        quiet_more (network_in panel program) (module_in panel program) t.laid t.processors_high t.slots_high (hand_in panel) old stops 0
+    still_quiet j quiet next i a b = go (ℕ_discrete i (j + 1))
+      where
+        go : Dec (i ≡ j + 1) → stops (after i) ≡ false
+        go (yes e) = rw e next
+        go (no d) = quiet i a (omega arith)
 
     -- the answer of a run, and the bytes that it leaves
     module _ (k : ℕ) where

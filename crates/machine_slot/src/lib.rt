@@ -20,7 +20,8 @@ use gates::TruthTables;
 use instruction::Instruction;
 
 // What a run lends to every slot, and no slot changes: the tables of the gates, the panel and the program, which are in range, and
-// the numbers of processors and slots that the panel has.
+// the numbers of processors and slots that the panel has. Its methods take a processor and a slot, and no struct of the two, as MOD's
+// lines have it: the processor runs while the slot stays, and is an index, so one would be made for each call and taken apart in it.
 #[derive(Drop)]
 pub struct Machine<'a> {
     pub tables: &'a TruthTables,
@@ -45,7 +46,7 @@ impl<'a> Machine<'a> {
             tables,
             panel,
             program,
-            processors: buffers_tables::processors(panel),
+            processors: usize::from(buffers_tables::processors(panel)),
             slots: buffers_tables::slots(panel),
         }
     }
@@ -68,8 +69,9 @@ impl<'a> Machine<'a> {
     }
 
     // "Its gate's result, or its input's value for cycle t", which is the value in hand. An empty slot is not evaluated. The kind is
-    // compared as the panel's byte, which 44 judged: a `Kind` would be made of it in every slot. The line is decoded behind the tests:
-    // what is decoded before them has to be kept over them.
+    // compared as the panel's byte, which 44 judged, and the signal as its number, 0 for none: a `Kind` and an `Option` would be made
+    // of them in every slot, and taken apart at once. The line is decoded behind the tests: what is decoded before them has to be kept
+    // over them.
     fn evaluate(&self, memory: &Memory, processor: usize, slot: Slot) -> u8
         requires placed { (processor < processors_in self.now.panel.now) × (slot.0 < slots_in self.now.panel.now) }
         requires memory_bytes { MemoryBytes memory.now }

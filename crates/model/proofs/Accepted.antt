@@ -23,13 +23,13 @@ use Rattle.model.specs.Files.{Files}
 use Rattle.model.specs.Acceptance.{Accepted, network_of, file_check}
 use Rattle.model.specs.Network.{Network, Signal, input, unit_delay, rank_order, is_signal}
 use Rattle.model.specs.Netlist.{net_line, net_field, net_size, network, ten_zeros, input_layout, gate_layout, source_right, sources_right, net_header, net_signal, net_surplus, net_check}
-use Rattle.model.specs.Module.{Module, At, local_present, switch_present, no_part, no_sender, placements}
+use Rattle.model.specs.Module.{Module, At, Laid, local_present, switch_present, no_part, no_sender, placements}
 use Rattle.model.specs.ModuleFile.{mod_line, mod_field, mod_processors, mod_slots, mod_index, module_of, mod_header, location_layout, operand_layout, send_layout, sender_layout, line_layout, mod_slot, each_line, mod_surplus, placed, sending, receiving, operands, mod_check}
 use Rattle.model.specs.Stimulus.{stim_line, stim_time, stim_signal, stim_value, stim_limit, is_end, time_before, rising, gives_value, may_give, stim_given, stim_end, stim_lines, stim_check, lines_before, stim_count, last_given, held}
 use Rattle.model.proofs.Conditions.{Formed, Scheduled}
 use Rattle.model.proofs.Refusals.{first_left, first_right, unless_true, below_pass}
 use Rattle.model.proofs.Placements.{placed_once}
-use Rattle.model.proofs.RightLine.{line_within}
+use Rattle.fields.proofs.RightLine.{line_within}
 
 -- The three files
 
@@ -165,7 +165,25 @@ pub record Located (m : Module) (most part location : ℕ) : Type 0 where
   pub low : location < m.slots
   pub none_at_0 : part ≡ no_part → location ≡ 0
 
--- The line of processor p and slot i
+-- the numbers of the line of processor p and slot i
+pub record Line (n : Network) (m : Module) (p i : ℕ) : Type 0 where
+  pub signal : m.signal p i ≤ n.size
+  pub operand : (j : ℕ) → j < 4 → Located m switch_present (m.part p i j) (m.location p i j)
+  pub send : Located m local_present (m.send_part p i) (m.send_location p i)
+  pub sender : (m.sender p i < m.processors) ⊎ (m.sender p i ≡ no_sender)
+
+pub lines_laid : {n : Network} {m : Module} → ((p i : ℕ) → At m p i → Line n m p i) → Laid n m
+lines_laid h =
+    record {
+      signals = λ p i a. (h p i a).signal;
+      parts = λ p i j a l. ((h p i a).operand j l).part_known;
+      locations = λ p i j a l. ((h p i a).operand j l).low;
+      send_parts = λ p i a. (h p i a).send.part_known;
+      send_locations = λ p i a. (h p i a).send.low;
+      senders = λ p i a. (h p i a).sender;
+    }
+
+-- The line of processor p and slot i, as MOD has it
 pub record SlotRight (n : Network) (modfile : List ℕ) (p i : ℕ) : Type 0 where
   pub line : is_line_at modfile (mod_line (mod_index modfile p i)) 14 ≡ true
   pub processor : mod_field modfile (mod_index modfile p i) 0 ≡ p
@@ -266,14 +284,7 @@ module _ (n : Network) (modfile : List ℕ) (accepted : mod_check n modfile ≡ 
       let from-sending = first_right _ _ from-placed in
       let from-receiving = first_right _ _ from-sending in
       record {
-        laid = record {
-          signals = λ p i a. (mod_slot_lem p i a).signal;
-          parts = λ p i j a l. ((mod_slot_lem p i a).operand j l).part_known;
-          locations = λ p i j a l. ((mod_slot_lem p i a).operand j l).low;
-          send_parts = λ p i a. (mod_slot_lem p i a).send.part_known;
-          send_locations = λ p i a. (mod_slot_lem p i a).send.low;
-          senders = λ p i a. (mod_slot_lem p i a).sender;
-        };
+        laid = lines_laid (λ p i a. let line = mod_slot_lem p i a in record { signal = line.signal; operand = line.operand; send = line.send; sender = line.sender });
         places = λ s g. placed_once (module_of modfile) s (once s g (first_left _ _ from-placed));
         sends = λ p i a. unless_true _ _ _ (at_pass modfile _ (first_left _ _ from-sending) p i a);
         receptions = λ p i a. unless_true _ _ _ (at_pass modfile _ (first_left _ _ from-receiving) p i a);

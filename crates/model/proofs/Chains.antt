@@ -241,7 +241,7 @@ pub record Smallest (n : Network) (s : ℕ) : Type 0 where
   pub closed : OnClosedChain n s
   pub no_smaller : (r : ℕ) → r < s → OnClosedChain n r → ⊥
 
-chain_signal : {n : Network} {a b : ℕ} → Chain n a b → Signal n b
+pub chain_signal : {n : Network} {a b : ℕ} → Chain n a b → Signal n b
 chain_signal (one f) = f.to
 chain_signal (more c f) = f.to
 

@@ -1,11 +1,11 @@
--- What a checked NET gives, whatever limit it passed by: N in its range, right fields, each signal's layout, and a network that is formed and
+-- What a checked NET gives, whatever limit it passed by: N in its range, right lines, each signal's layout, and a network that is formed and
 -- has no closed chain. A NET that passes by a limit of the unit is checked.
-use Prim.Native.Nat.{ℕ, ◌+◌, ◌*◌, ◌<◌, ◌≤◌}
+use Prim.Native.Nat.{ℕ, ◌≤◌}
 use mathlib.Core.Path.{◌≡◌}
 use mathlib.Core.Bool.{true}
 use mathlib.Core.List.{List}
 use native.Mathlib.Omega.{arith}
-use Rattle.fields.specs.Field.{is_field_at}
+use Rattle.fields.specs.Line.{is_line_at}
 use Rattle.model.specs.Refusal.{pass}
 use Rattle.model.specs.Files.{Files}
 use Rattle.model.specs.Network.{Signal}
@@ -15,7 +15,6 @@ use Rattle.model.specs.Checked.{Checked}
 use Rattle.model.proofs.Conditions.{Formed, Acyclic}
 use Rattle.model.proofs.Chains.{net_acyclic}
 use Rattle.model.proofs.Accepted.{SignalRight, net_accepted, net_size_lem, net_signal_lem, net_formed, net_lines_lem}
-use Rattle.model.proofs.RightLine.{line_field}
 
 -- the panel's own limit is one
 pub panel_few : panel_limit ≤ panel_limit
@@ -36,10 +35,9 @@ module _ (net : List ℕ) (checked : Checked net) where
   pub checked_signal : (s : ℕ) → Signal (network net) s → SignalRight net s
   checked_signal = net_signal_lem checked.limit net checked.passes
 
-  -- a field of the line of s, at its place; line 1 is that of 0
-  pub checked_field : (s column place : ℕ) → s ≤ net_size net → column < 12 → place ≡ net_line s + 6 * column → is_field_at net place ≡ true
-  checked_field s column place high low e =
-      rw e (line_field net (net_line s) 12 (net_lines_lem checked.limit net checked.passes s high) column low)
+  -- the line of s; line 1 is that of 0
+  pub checked_line : (s : ℕ) → s ≤ net_size net → is_line_at net (net_line s) 12 ≡ true
+  checked_line = net_lines_lem checked.limit net checked.passes
 
   pub checked_formed : Formed (network net)
   checked_formed = net_formed checked.limit net checked.passes

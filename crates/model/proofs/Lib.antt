@@ -1,6 +1,5 @@
 pub mod Conditions
 pub mod Refusals
-pub mod RightLine
 pub mod Placements
 pub mod Chains
 pub mod Value

@@ -1,6 +1,6 @@
 -- The fields of an accepted NET that are read in place: N, and those of a signal, whose kind is one of three. A NET that passes by a lower
 -- limit passes by the panel's.
-use Prim.Native.Nat.{ℕ, ◌+◌, ◌*◌, ◌<◌, ◌≤◌}
+use Prim.Native.Nat.{ℕ, ◌+◌, ◌*◌, ◌≤◌}
 use mathlib.Core.Path.{◌≡◌, refl}
 use mathlib.Core.Bool.{true}
 use mathlib.Core.List.{List}
@@ -10,14 +10,14 @@ use Rattle.logic.proofs.Tests.{and_left, and_right, and_true}
 use Rattle.logic.proofs.Judged.{connected}
 use Rattle.std.specs.Prelude.{Result, Ok, Err}
 use Rattle.std.specs.Result.{result_unwrap_or}
-use Rattle.fields.specs.Field.{is_field_at}
+use Rattle.fields.specs.Line.{is_line_at}
 use Rattle.model.specs.Refusal.{pass}
 use Rattle.model.specs.Network.{is_signal}
 use Rattle.model.specs.Netlist.{net_field, net_size, network, net_header, net_check}
 use Rattle.model.specs.Acceptance.{panel_limit}
 use Rattle.model.specs.Checked.{Checked}
 use Rattle.model.proofs.Refusals.{first_left, first_right, first_both, unless_true, unless_pass}
-use Rattle.model.proofs.Checked.{panel_few, checked_accepted, checked_size, checked_signal, checked_field}
+use Rattle.model.proofs.Checked.{panel_few, checked_accepted, checked_size, checked_signal, checked_line}
 use Rattle.netlist.specs.declared.kind.Kind.{Kind}
 use Rattle.netlist.specs.declared.kind.UnknownKind.{UnknownKind}
 use Rattle.netlist.specs.Kind.{code_of, Decodes}
@@ -40,8 +40,8 @@ module _ (net : List ℕ) (accepted : net_check panel_limit net ≡ pass) where
   pub checked : Checked net
   checked = checked_accepted panel_limit panel_few net accepted
 
-  pub right_field : (line column : ℕ) → line ≤ net_size net → column < 12 → is_field_at net (73 * line + 6 * column) ≡ true
-  right_field line column high low = checked_field net checked line column _ high low refl
+  pub right_line : (line : ℕ) → line ≤ net_size net → is_line_at net (73 * line) 12 ≡ true
+  right_line = checked_line net checked
 
   pub size_range : (1 ≤ net_size net) × (net_size net ≤ 4096)
   size_range = checked_size net checked

@@ -3,6 +3,7 @@
 #![tactic(auto)]
 
 ghost use Rattle.std.specs.Prelude.{◌≡◌, true, ◌<◌, ◌≤◌, eqb};
+ghost use Rattle.logic.specs.Numbered.{numbered};
 ghost use Rattle.model.specs.Refusal.{pass};
 ghost use Rattle.model.specs.Network.{is_signal, input};
 ghost use Rattle.model.specs.Netlist.{net_field, net_size, network, net_check};
@@ -12,6 +13,7 @@ ghost use Rattle.netlist.specs.Kind.{code_of};
 
 mod kind;
 
+use fields::Line;
 pub use kind::{Kind, UnknownKind};
 
 // The bytes of a NET that is checked. The limit is the panel's: what a lower one accepts, it accepts too.
@@ -31,11 +33,13 @@ impl<'a> Netlist<'a> {
     }
 
     // A field of the line of a signal, or of line 1, which is that of 0.
+    #[tactic(auto, using(crate::proofs::InPlace::right_line))]
     pub fn field(&self, line: u16, column: usize) -> u16
         requires { (line ≤ net_size self.now.net.now) × (column < 12) }
         ensures { result ≡ net_field self.now.net.now line column }
     {
-        fields::number_at(self.net, 73 * usize::from(line) + 6 * column)
+        let place = 73 * usize::from(line);
+        Line::<12>::new(self.net, place).number(column)
     }
 
     // N.
@@ -68,11 +72,15 @@ impl<'a> Netlist<'a> {
         self.kind(s) == Kind::Input
     }
 
-    // Source 1 to 4 of a signal, by 0 to 3.
-    pub fn source(&self, s: u16, j: usize) -> u16
+    // Source 1 to 4 of a signal, by 0 to 3, or none: "Source 0 means none".
+    #[tactic(auto, using(crate::proofs::InPlace::source_is))]
+    pub fn source(&self, s: u16, j: usize) -> Option<u16>
         requires { (is_signal (network self.now.net.now) s ≡ true) × (j < 4) }
-        ensures { result ≡ (network self.now.net.now).source s j }
+        ensures { result ≡ numbered ((network self.now.net.now).source s j) }
     {
-        self.field(s, 8 + j)
+        match self.field(s, 8 + j) {
+            0 => None,
+            source => Some(source),
+        }
     }
 }

@@ -6,7 +6,10 @@ use mathlib.Core.Bool.{Bool, true, false}
 use mathlib.Core.List.{List}
 use mathlib.Core.Logic.{⊎_elim}
 use native.Mathlib.Omega.{arith}
-use Rattle.std.specs.Prelude.{Result, Ok, Err}
+use lib.ListN.{length}
+use Rattle.std.specs.Prelude.{Result, Ok, Err, Option, Some, None}
+use Rattle.std.specs.Array.{IsWholeChunk}
+use Rattle.std.specs.Option.{MatchOption, ok_or}
 use Rattle.std.specs.Result.{IsErrAnd}
 use Rattle.std.proofs.lemmas.Result.{err_from_is_err_and}
 use Rattle.model.specs.Refusal.{Check, pass, fail, first, unless, first_below}
@@ -33,6 +36,30 @@ module _ {E : Type 0} {refusal : E → Check} {check : Check} {bytes lent left :
 
   pub leaves_done : check ≡ pass → left ≡ bytes → Leaves refusal check bytes lent (Ok (tt {0})) left
   leaves_done passed same = record { answers = sym passed; leaves = same ∙ sym (left_done check bytes lent passed) }
+
+-- an array asked of lent bytes, `ok_or` a refusal: there is one where their length is right, and it is they
+module _ {A E : Type 0} (o : Option A) (now : A → List ℕ) (bytes : List ℕ) (n : ℕ) (d : E) {r : Result A E}
+    (cases : MatchOption o (length bytes ≡ n → ⊥) (λ x. IsWholeChunk bytes (now x) n)) (is : r ≡ ok_or o d) where
+  pub array_lent : {x : A} → r ≡ Ok x → IsWholeChunk bytes (now x) n
+  array_lent {x} ok = go o (sym is ∙ ok) cases
+    where
+      go : (p : Option A) → ok_or p d ≡ Ok x → MatchOption p (length bytes ≡ n → ⊥) (λ y. IsWholeChunk bytes (now y) n) → IsWholeChunk bytes (now x) n
+      go None q h = absurd (let z : ◌≡◌ {A = ℕ} 0 1 = cc in omega arith)
+      go (Some y) q h = let same : y ≡ x = cc in rw same at h
+
+  none_lent : {e : E} → r ≡ Err e → (length bytes ≡ n → ⊥) × (e ≡ d)
+  none_lent {e} err = go o (sym is ∙ err) cases
+    where
+      go : (p : Option A) → ok_or p d ≡ Err e → MatchOption p (length bytes ≡ n → ⊥) (λ y. IsWholeChunk bytes (now y) n) → (length bytes ≡ n → ⊥) × (e ≡ d)
+      go None q h = (h, cc)
+      go (Some y) q h = absurd (let z : ◌≡◌ {A = ℕ} 0 1 = cc in omega arith)
+
+  -- with none, the call refuses as d, and leaves the bytes
+  pub lent_refused : {e : E} {refusal : E → Check} {check : Check} {new : List ℕ} {q : Result (Unit {0}) E} → r ≡ Err e
+      → ((length bytes ≡ n → ⊥) → Answers refusal (tt {0}) check (Err d)) → IsErrAnd q (λ x. x ≡ e) → Leaves refusal check new bytes q bytes
+  lent_refused err refuses told =
+      let none = none_lent err in
+      leaves_lent (refuses none.0) (rw none.1 at told) refl
 
 -- the same refusal as a caller's
 pub told_as : {A E F : Type 0} {refusal : E → Check} {other : F → Check} {x : A} {check : Check} {e : E} {f : F}

@@ -12,4 +12,4 @@ abbrev pub call_answer : Result Reply CallRefusal → Answer
 call_answer (Err refusal) = check_answer (call_refusal refusal)
 call_answer (Ok Done) = done
 call_answer (Ok (Value v)) = value v
-call_answer (Ok (Ran count stopped)) = ran count.0 stopped
+call_answer (Ok (Ran run)) = ran run.done.0 run.stopped

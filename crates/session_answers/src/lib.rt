@@ -10,7 +10,7 @@ ghost use Rattle.session_answers.specs.Refusals.{recorded_refusal};
 ghost use Rattle.session_answers.specs.Answers.{answer_bits, check_bits};
 ghost use Rattle.session_answers.specs.Replies.{call_answer};
 
-use clock::Cycle;
+use clock::{Cycle, Ran};
 use file_lines::Refusal;
 use std::array::TryFromSliceError;
 
@@ -40,7 +40,7 @@ impl Refusal for CallRefusal {
     }
 }
 
-// A buffer lent with another length than its fixed one.
+// A buffer lent with another length than its fixed one. Each type of refusals has an impl of its own, since `?` asks for one.
 impl From<TryFromSliceError> for CallRefusal {
     ghost use Rattle.session_answers.specs.declared.CallRefusal.TheVariants.{WrongLength};
 
@@ -82,7 +82,7 @@ pub fn check_recorded(values: &[u8]) -> Result<(), NoSuchValue>
 pub enum Reply {
     Done,
     Value(u8),
-    Ran(Cycle, bool),
+    Ran(Ran),
 }
 
 pub type CallAnswer = Result<Reply, CallRefusal>;
@@ -123,7 +123,7 @@ pub fn answer_bits(answer: CallAnswer) -> u64
     match answer {
         Ok(Reply::Done) => 0,
         Ok(Reply::Value(value)) => u64::from(value),
-        Ok(Reply::Ran(count, stopped)) => u64::from(count.0) + 65536 * u64::from(stopped),
+        Ok(Reply::Ran(ran)) => u64::from(ran.done.0) + 65536 * u64::from(ran.stopped),
         Err(refusal) => refused_bits(refusal),
     }
 }

@@ -47,37 +47,31 @@ module _ (panel program memory : List ℕ) (h : Head) where
       let n = network_in panel program in
       meet fixed n (lockstep n (module_in panel program) (processor_in panel) (slot_in panel)) h (memory_of memory) call check
 
-  pub set_state : (s : ℕ) (v : ℕ) → (commanded panel program memory h (set s v)).state ≡ memory_of memory
-  unfolding meet perform
-  set_state s v = go (call_check (network_in panel program) h.finished (set s v))
+  -- what a call leaves as it is where it is performed, it leaves as it is where it is refused
+  leaves_part : {A : Type 0} (part : Head → Memory → A) (call : Call) → (let o = leaves call pass in part o.head o.state ≡ part h (memory_of memory))
+      → (let o = commanded panel program memory h call in part o.head o.state ≡ part h (memory_of memory))
+  unfolding meet
+  leaves_part part call performed = go (call_check (network_in panel program) h.finished call)
     where
-      go : (k : Check) → (leaves (set s v) k).state ≡ memory_of memory
-      go pass = refl
+      go : (k : Check) → part (leaves call k).head (leaves call k).state ≡ part h (memory_of memory)
+      go pass = performed
       go (fail number returned) = refl
 
-  pub watch_state : (s : ℕ) (m : ℕ) → (commanded panel program memory h (watch s m)).state ≡ memory_of memory
+  pub set_state : (s v : ℕ) → (commanded panel program memory h (set s v)).state ≡ memory_of memory
   unfolding meet perform
-  watch_state s m = go (call_check (network_in panel program) h.finished (watch s m))
-    where
-      go : (k : Check) → (leaves (watch s m) k).state ≡ memory_of memory
-      go pass = refl
-      go (fail number returned) = refl
+  set_state s v = leaves_part (λ _ w. w) (set s v) refl
+
+  pub watch_state : (s m : ℕ) → (commanded panel program memory h (watch s m)).state ≡ memory_of memory
+  unfolding meet perform
+  watch_state s m = leaves_part (λ _ w. w) (watch s m) refl
 
   pub read_state : (s : ℕ) → (commanded panel program memory h (read s)).state ≡ memory_of memory
   unfolding meet perform
-  read_state s = go (call_check (network_in panel program) h.finished (read s))
-    where
-      go : (k : Check) → (leaves (read s) k).state ≡ memory_of memory
-      go pass = refl
-      go (fail number returned) = refl
+  read_state s = leaves_part (λ _ w. w) (read s) refl
 
   pub read_head : (s : ℕ) → (commanded panel program memory h (read s)).head ≡ h
   unfolding meet perform
-  read_head s = go (call_check (network_in panel program) h.finished (read s))
-    where
-      go : (k : Check) → (leaves (read s) k).head ≡ h
-      go pass = refl
-      go (fail number returned) = refl
+  read_head s = leaves_part (λ x _. x) (read s) refl
 
 -- a read writes nothing: the head of its outcome is the panel's own
 pub reads : (panel program memory : List ℕ) (s : ℕ) (h : Head) → h ≡ head_in panel → with_head (head_in panel) panel ≡ panel

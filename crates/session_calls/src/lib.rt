@@ -2,10 +2,10 @@
 
 #![tactic(auto)]
 
-ghost use Rattle.std.specs.Prelude.{◌≡◌, List, ℕ, ◌≤◌, ◌<◌};
+ghost use Rattle.std.specs.Prelude.{◌≡◌, List, ℕ, ◌≤◌};
 ghost use Rattle.model.specs.Session.{set as setting, watch as watching, read as reading, run as running};
 ghost use Rattle.buffers_memory.specs.Memory.{with_memory, MemoryBytes};
-ghost use Rattle.buffers_tables.specs.Panel.{signals_in, processor_in, processors_in, slots_in};
+ghost use Rattle.buffers_tables.specs.Panel.{signals_in, processors_in, slots_in};
 ghost use Rattle.buffers_tables.specs.Tables.{Tables};
 ghost use Rattle.machine_run.specs.Running.{Watching};
 ghost use Rattle.file_lines.specs.Answer.{Answers};
@@ -21,6 +21,8 @@ ghost use Rattle.session_calls.specs.Writes.{Writes};
 use buffers_memory::Memory;
 use buffers_tables::{Panel, Program};
 use gates::TruthTables;
+use machine_run::Readable;
+use machine_slot::Machine;
 use session_answers::CallRefusal;
 use session_state::Told;
 
@@ -69,13 +71,10 @@ fn watch_in(panel: &mut Panel, signal: u32, mask: u32) -> u64
 }
 
 // A read, on buffers in range. The session that it hands back is the old one, and nothing is written.
-fn read_in(panel: &Panel, memory: &Memory, signal: u32) -> u64
-    requires signals_high { signals_in panel.now ≤ 4096 }
-    requires processors_low { (s : ℕ) → 1 ≤ s → s ≤ signals_in panel.now → processor_in panel.now s < 16 }
-    requires memory_bytes { MemoryBytes memory.now }
-    ensures { (program : List ℕ) → Writes (commanded panel.now program memory.now (head_in panel.now) (reading signal)) panel.now result panel.now }
+fn read_in(readable: &Readable, signal: u32) -> u64
+    ensures { (program : List ℕ) → Writes (commanded readable.now.panel.now program readable.now.memory.now (head_in readable.now.panel.now) (reading signal)) readable.now.panel.now result readable.now.panel.now }
 {
-    let told = session_state::decode(panel).read(panel, memory, signal);
+    let told = session_state::decode(readable.panel).read(readable, signal);
     session_answers::answer_bits(told.answer)
 }
 
@@ -88,13 +87,13 @@ fn run_in(panel: &mut Panel, program: &Program, memory: &mut Memory, cycles: u32
     ensures memory_after { memory.new ≡ with_memory (processors_in panel.old) (slots_in panel.old) (commanded panel.old program.now memory.old (head_in panel.old) (running cycles)).state memory.old }
 {
     let tables = TruthTables::new();
-    tell(
-        session_state::decode(panel).run(&tables, panel, program, memory, cycles),
-        panel,
-    )
+    let session = session_state::decode(panel);
+    let told = session.run(&Machine::new(&tables, panel, program), memory, cycles);
+    tell(told, panel)
 }
 
-// The four calls stay apart: they are four entries for C, and each is lent other buffers to write.
+// The four calls stay apart: they are four entries for C, and each is lent other buffers to write. The arrays that `readiness` makes are
+// not handed on, since it shares all three and a call then writes some: each makes those that it needs.
 
 // Set an input for the next cycle. Refused by 40, 44, 41, 42, in this order.
 pub fn set(panel: &mut [u8], program: &[u8], memory: &[u8], signal: u32, value: u32) -> u64
@@ -125,11 +124,13 @@ pub fn read(panel: &[u8], program: &[u8], memory: &[u8], signal: u32) -> u64
 {
     match readiness(panel, program, memory) {
         Err(refusal) => session_answers::answer_bits(Err(refusal)),
-        Ok(()) => read_in(
-            panel.as_array().unwrap(),
-            memory.as_array().unwrap(),
-            signal,
-        ),
+        Ok(()) => {
+            let readable = Readable {
+                panel: panel.as_array().unwrap(),
+                memory: memory.as_array().unwrap(),
+            };
+            read_in(&readable, signal)
+        }
     }
 }
 

@@ -9,6 +9,7 @@ ghost use Rattle.buffers_load_files.specs.Loaded.{panel_of, program_of, opening_
 ghost use Rattle.session_answers.specs.Answers.{check_bits};
 ghost use Rattle.session_opening.specs.Opened.{opening_check_lent, cleared, left_by};
 
+use file_bytes::FileBytes;
 use file_lines::Refusal;
 use session_answers::CallRefusal;
 
@@ -18,9 +19,9 @@ fn clear_all(panel: &mut [u8], program: &mut [u8], memory: &mut [u8])
     ensures program_after { program.new ≡ cleared (length program.old) }
     ensures memory_after { memory.new ≡ cleared (length memory.old) }
 {
-    buffers_lengths::fill(panel, 0);
-    buffers_lengths::fill(program, 0);
-    buffers_lengths::fill(memory, 0);
+    panel.fill(0);
+    program.fill(0);
+    memory.fill(0);
 }
 
 // "A refused opening leaves the working buffers all zero, as far as they were lent to it."
@@ -52,23 +53,22 @@ pub fn open(
     if !buffers_lengths::lengths_right(panel, program, memory) {
         return refuse(CallRefusal::WrongLength, panel, program, memory);
     }
-    let Err(refusal) = file_checks::check_files(net, modfile, stim) else {
-        buffers_load::load(
-            net,
-            modfile,
-            stim,
-            panel.as_mut_array().unwrap(),
-            program.as_mut_array().unwrap(),
-            memory.as_mut_array().unwrap(),
-        );
-        return 0;
-    };
-    refuse(refusal, panel, program, memory)
+    let files = FileBytes { net, modfile, stim };
+    if let Err(refusal) = file_checks::check_files(&files) {
+        return refuse(refusal, panel, program, memory);
+    }
+    buffers_load::load(
+        &files,
+        panel.as_mut_array().unwrap(),
+        program.as_mut_array().unwrap(),
+        memory.as_mut_array().unwrap(),
+    );
+    0
 }
 
 // The check of the three files alone, in the opening's bits: 0 where they are accepted, else the refusal.
 pub fn check(net: &[u8], modfile: &[u8], stim: &[u8]) -> u64
     ensures answer { result ≡ check_bits (file_check panel_limit (files_of net.now modfile.now stim.now)) }
 {
-    session_answers::check_bits(file_checks::check_files(net, modfile, stim))
+    session_answers::check_bits(file_checks::check_files(&FileBytes { net, modfile, stim }))
 }

@@ -2,21 +2,19 @@
 
 #![tactic(auto)]
 
-ghost use Rattle.std.specs.Prelude.{◌≡◌, List, ℕ, ◌≤◌, ◌<◌, Err};
+ghost use Rattle.std.specs.Prelude.{◌≡◌, List, ℕ, ◌≤◌, Err};
 ghost use Rattle.model.specs.Session.{set as setting, watch as watching, read as reading, run as running};
 ghost use Rattle.buffers_memory.specs.Memory.{with_memory, MemoryBytes};
-ghost use Rattle.buffers_tables.specs.Panel.{signals_in, processor_in, processors_in, slots_in};
-ghost use Rattle.buffers_tables.specs.Tables.{Tables};
+ghost use Rattle.buffers_tables.specs.Panel.{signals_in, processors_in, slots_in};
 ghost use Rattle.machine_run.specs.Running.{watch_of, Watching};
 ghost use Rattle.session_state.specs.Header.{head_in, with_head};
 ghost use Rattle.session_state.specs.Carried.{head_of};
 ghost use Rattle.session_state.specs.Commands.{signal_in, input_in, commanded, Tells};
 
 use buffers_memory::Memory;
-use buffers_tables::{Panel, Program};
+use buffers_tables::Panel;
 use clock::Cycle;
-use gates::TruthTables;
-use machine_run::Watch;
+use machine_run::{Readable, Watch};
 use machine_slot::Machine;
 use session_answers::{CallAnswer, CallRefusal, Reply};
 
@@ -47,8 +45,8 @@ pub fn decode(panel: &Panel) -> Session
     }
 }
 
-// A signal of the network: 1 to N. `Netlist` has the same test on NET's bytes, which are not there when a call is made. That N is at most 4096 is asked of the panel where a byte of a signal is read or written: its bytes are
-// lent by C, and 44 judged them.
+// A signal of the network: 1 to N. `Netlist` has the same test on NET's bytes, which are not there when a call is made. That N is at most
+// 4096 is asked of the panel where a byte of a signal is read or written: its bytes are lent by C, and 44 judged them.
 #[tactic(auto, using(logic::proofs::Judged::connected), unfolding(crate::specs::Commands::signal_in))]
 fn is_signal(panel: &Panel, signal: u32) -> bool
     ensures { result ≡ signal_in panel.now signal }
@@ -90,8 +88,7 @@ impl Session {
         requires { signals_in panel.old ≤ 4096 }
         ensures { (program memory : List ℕ) → Tells (commanded panel.old program memory (head_of self panel.old) (setting input value)) result panel.old panel.new }
     {
-        let known = is_input(panel, input);
-        if !known {
+        if !is_input(panel, input) {
             return self.refused(CallRefusal::NoSuchSignal(input));
         }
         if 3 < value {
@@ -115,31 +112,26 @@ impl Session {
         if 15 < mask {
             return self.refused(CallRefusal::NoSuchValue(mask));
         }
-        let finished = self.finished;
-        let watched = signal as u16;
         Told {
             session: Session {
-                finished,
                 watch: Watch {
-                    signal: watched,
+                    signal: signal as u16,
                     mask: mask as u8,
                 },
+                ..self
             },
             answer: Ok(Reply::Done),
         }
     }
 
     // "Reads give the value at the end of the last finished cycle."
-    pub fn read(self, panel: &Panel, memory: &Memory, signal: u32) -> Told
-        requires signals_high { signals_in panel.now ≤ 4096 }
-        requires processors_low { (s : ℕ) → 1 ≤ s → s ≤ signals_in panel.now → processor_in panel.now s < 16 }
-        requires memory_bytes { MemoryBytes memory.now }
-        ensures { (program : List ℕ) → Tells (commanded panel.now program memory.now (head_of self panel.now) (reading signal)) result panel.now panel.now }
+    pub fn read(self, readable: &Readable, signal: u32) -> Told
+        ensures { (program : List ℕ) → Tells (commanded readable.now.panel.now program readable.now.memory.now (head_of self readable.now.panel.now) (reading signal)) result readable.now.panel.now readable.now.panel.now }
     {
-        if !is_signal(panel, signal) {
+        if !is_signal(readable.panel, signal) {
             return self.refused(CallRefusal::NoSuchSignal(signal));
         }
-        let value = machine_run::value_of(panel, memory, signal as u16);
+        let value = readable.value_of(signal as u16);
         Told {
             session: self,
             answer: Ok(Reply::Value(value)),
@@ -147,36 +139,23 @@ impl Session {
     }
 
     // "run k cycles": "It answers the cycles done and whether it stopped".
-    pub fn run(
-        self,
-        tables: &TruthTables,
-        panel: &Panel,
-        program: &Program,
-        memory: &mut Memory,
-        cycles: u32,
-    ) -> Told
-        requires tables { Tables panel.now program.now }
-        requires watching { Watching panel.now (watch_of self.watch) }
+    pub fn run(self, machine: &Machine, memory: &mut Memory, cycles: u32) -> Told
+        requires watching { Watching machine.now.panel.now (watch_of self.watch) }
         requires memory_bytes { MemoryBytes memory.old }
-        ensures tells { Tells (commanded panel.now program.now memory.old (head_of self panel.now) (running cycles)) result panel.now panel.now }
-        ensures memory_after { memory.new ≡ with_memory (processors_in panel.now) (slots_in panel.now) (commanded panel.now program.now memory.old (head_of self panel.now) (running cycles)).state memory.old }
+        ensures tells { Tells (commanded machine.now.panel.now machine.now.program.now memory.old (head_of self machine.now.panel.now) (running cycles)) result machine.now.panel.now machine.now.panel.now }
+        ensures memory_after { memory.new ≡ with_memory (processors_in machine.now.panel.now) (slots_in machine.now.panel.now) (commanded machine.now.panel.now machine.now.program.now memory.old (head_of self machine.now.panel.now) (running cycles)).state memory.old }
     {
         let finished = self.finished;
-        let count = finished.0;
-        let watch = self.watch;
-        if 65535 - u32::from(count) < cycles {
+        if 65535 - u32::from(finished.0) < cycles {
             return self.refused(CallRefusal::TooManyCycles(finished));
         }
-        let machine = Machine::new(tables, panel, program);
-        let ran = machine_run::run(&machine, memory, watch, Cycle(cycles as u16));
-        let done = ran.done.0;
-        let stopped = ran.stopped;
+        let ran = machine_run::run(machine, memory, self.watch, Cycle(cycles as u16));
         Told {
             session: Session {
-                finished: Cycle(count + done),
-                watch,
+                finished: Cycle(finished.0 + ran.done.0),
+                ..self
             },
-            answer: Ok(Reply::Ran(Cycle(done), stopped)),
+            answer: Ok(Reply::Ran(ran)),
         }
     }
 }

@@ -1,34 +1,37 @@
 -- The unused bits of a block, judged cycle by cycle from the count on.
-use Prim.Native.Nat.{ℕ, ◌+◌, ◌≤◌, ◌<◌}
-use mathlib.Core.Path.{◌≡◌, sym, ap, ◌∙◌}
-use mathlib.Core.Bool.{Bool, true, false}
+use Prim.Native.Nat.{ℕ, ◌+◌, ◌-◌, ◌≤◌, ◌<◌}
+use mathlib.Core.Path.{◌≡◌, ◌∙◌}
+use mathlib.Core.Bool.{Bool, true}
 use mathlib.Core.List.{List}
+use native.Mathlib.Omega.{arith}
+use native.Mathlib.Decide.{dec_lt}
 use lib.Dec.{eqb, ltb}
-use borrow.Author.Tests.{eq-eqb, ne_eqb, lt-ltb, le-ltb}
+use borrow.Author.Tests.{lt-ltb, le-ltb}
+use Rattle.std.specs.List.{list_all, range_with_len}
 use Rattle.logic.specs.Test.{◌or◌, all}
-use Rattle.logic.proofs.Tests.{or_left, or_right, all_true, all_more, all_fails, all_ends}
-use Rattle.model.specs.Refusal.{pass, fail, unless}
-use Rattle.model.proofs.Refusals.{unless_pass}
+use Rattle.logic.proofs.Judged.{same_test}
+use Rattle.logic.proofs.Ranges.{by_first}
+use Rattle.logic.proofs.Tests.{or_left, or_right, all_true, all_at}
 use Rattle.traces.specs.Turned.{values_length, block_value, unused_clear}
 
-module _ (block : List ℕ) (count : ℕ) where
-  abbrev pub clear_at : ℕ → Bool
-  clear_at c = ltb c count or eqb (block_value block c) 0
+-- the tests of the cycles past the count are those of all, where a cycle within it passes
+pub unused_judged : (block : List ℕ) (count : ℕ) → count ≤ values_length
+    → list_all (λ c. eqb (block_value block c) 0) (range_with_len count (values_length - count)) ≡ unused_clear block count
+unfolding unused_clear ◌or◌
+unused_judged block count few = by_first clear (values_length - count) count ∙ same_test _ _ forth back
+  where
+    clear : ℕ → Bool
+    clear c = eqb (block_value block c) 0
 
-  pub unused_starts : all count clear_at ≡ true
-  unused_starts = all_true clear_at count (λ c low. or_left _ _ (lt-ltb c count low))
-
-  module _ (c : ℕ) {v : ℕ} (e : v ≡ block_value block c) where
-    pub unused_more : all c clear_at ≡ true → v ≡ 0 → all (c + 1) clear_at ≡ true
-    unused_more before zero = all_more clear_at c before (or_right _ _ (eq-eqb (block_value block c) 0 (sym e ∙ zero)))
-
-    pub unused_set : count ≤ c → c < values_length → (v ≡ 0 → ⊥) → unless (unused_clear block count) 52 0 ≡ fail 52 0
-    unfolding unused_clear ◌or◌ unless
-    unused_set past inside some = ap (λ (b : Bool). unless b 52 0) (all_fails clear_at values_length c inside fails)
+    forth : all (values_length - count) (λ k. clear (count + k)) ≡ true → all values_length (λ c. ltb c count or clear c) ≡ true
+    forth e = all_true _ values_length (λ c low. at c low (dec_lt c count))
       where
-        fails : clear_at c ≡ false
-        fails = rw (le-ltb c count past, ne_eqb (block_value block c) 0 (λ z. some (e ∙ z)))
+        at : (c : ℕ) → c < values_length → Dec (c < count) → ltb c count or clear c ≡ true
+        at c low (yes l) = or_left _ _ (lt-ltb c count l)
+        at c low (no d) =
+            let here : count + (c - count) ≡ c = omega arith in
+            or_right _ _ (rw here at (all_at (λ k. clear (count + k)) (values_length - count) e (c - count) (omega arith)))
 
-  pub unused_ends : (c : ℕ) → c ≤ values_length → values_length ≤ c → all c clear_at ≡ true → unless (unused_clear block count) 52 0 ≡ pass
-  unfolding unused_clear
-  unused_ends c low high h = unless_pass _ 52 0 (all_ends clear_at values_length c low high h)
+    back : all values_length (λ c. ltb c count or clear c) ≡ true → all (values_length - count) (λ k. clear (count + k)) ≡ true
+    back e =
+        all_true _ (values_length - count) (λ k low. rw (le-ltb (count + k) count (omega arith)) at (all_at _ values_length e (count + k) (omega arith)))

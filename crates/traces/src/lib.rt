@@ -15,7 +15,7 @@ ghost use Rattle.traces.specs.Answer.{turn_refusal};
 
 use file_lines::Refusal;
 use session_answers::NoSuchValue;
-use std::array::TryFromSliceError;
+use std::array::{self, TryFromSliceError};
 
 // The lengths of the two buffers, a byte and two bits for each cycle, and the most cycles of a block.
 const VALUES_BYTES: usize = 64;
@@ -47,7 +47,7 @@ impl Refusal for TurnRefusal {
     }
 }
 
-// A buffer lent with another length than its fixed one.
+// A buffer lent with another length than its fixed one. Each type of refusals has an impl of its own, since `?` asks for one.
 impl From<TryFromSliceError> for TurnRefusal {
     ghost use Rattle.traces.specs.declared.TurnRefusal.TheVariants.{WrongLength};
 
@@ -90,17 +90,16 @@ fn bit_at(byte: u8, i: usize) -> u8
 }
 
 // One half of a block as a number: the low bits of the values within the count, or the high ones, the earliest cycle lowest. From the
-// last cycle to the first, what is there is doubled and the cycle's bit is added: shifted to its place, each bit takes longer. The count's
-// bound is asked, here and below, as that of an index is.
+// last cycle to the first, what is there is doubled, by a shift, which cannot overflow, and the cycle's bit is added: shifted to its place,
+// each bit takes longer. The count's bound is asked, here and below, as that of an index is.
 fn turned_half(values: &[u8; VALUES_BYTES], count: usize, half: usize) -> u64
     requires { (count ≤ most_cycles) × (half < 2) }
     ensures { result ≡ bits (λ c. bit (get_or values.now c 0) half) count }
 {
-    let mut number: u64 = 0;
-    for c in (0..count).rev() {
-        number = 2 * number + u64::from(bit_at(values[c], half));
-    }
-    number
+    values[..count].iter().rev().fold(
+        0,
+        |number, &value| (number << 1) + u64::from(bit_at(value, half)),
+    )
 }
 
 // The block of the values within the count.
@@ -120,9 +119,7 @@ fn turn_checked(values: &[u8], block: &mut [u8], count: u32) -> Result<(), TurnR
 {
     let values: &[u8; VALUES_BYTES] = values.try_into()?;
     // `as_mut_array` says, as `try_into` does not, what the slice holds in the end.
-    let Some(block) = block.as_mut_array() else {
-        return Err(TurnRefusal::WrongLength);
-    };
+    let block = block.as_mut_array().ok_or(TurnRefusal::WrongLength)?;
     let count = cycles_of(count)?;
     session_answers::check_recorded(&values[..count])?;
     turn_all(values, count, block);
@@ -154,12 +151,10 @@ fn check_unused(block: &[u8; BLOCK_BYTES], count: usize) -> Result<(), TurnRefus
     requires { count ≤ most_cycles }
     ensures { Answers turn_refusal (tt {0}) (unused_check block.now count) result }
 {
-    for c in count..VALUES_BYTES {
-        if block_value(block, c) != 0 {
-            return Err(TurnRefusal::UnusedBit);
-        }
+    if (count..VALUES_BYTES).all(|c| block_value(block, c) == 0) {
+        return Ok(());
     }
-    Ok(())
+    Err(TurnRefusal::UnusedBit)
 }
 
 // All values of a block: those of the cycles within the count, and 0 past it.
@@ -167,9 +162,7 @@ fn turn_back_all(block: &[u8; BLOCK_BYTES], count: usize, values: &mut [u8; VALU
     requires { count ≤ most_cycles }
     ensures { values.new ≡ turned_back block.now count }
 {
-    for cycle in 0..VALUES_BYTES {
-        values[cycle] = value_back(block, count, cycle);
-    }
+    *values = array::from_fn(|cycle| value_back(block, count, cycle));
 }
 
 // The value of a cycle within the count, and 0 past it.
@@ -189,9 +182,7 @@ fn turn_back_checked(block: &[u8], values: &mut [u8], count: u32) -> Result<(), 
     ensures { Leaves turn_refusal (turn_back_check block.now values.old count) (turned_back block.now count) values.old result values.new }
 {
     let block: &[u8; BLOCK_BYTES] = block.try_into()?;
-    let Some(values) = values.as_mut_array() else {
-        return Err(TurnRefusal::WrongLength);
-    };
+    let values = values.as_mut_array().ok_or(TurnRefusal::WrongLength)?;
     let count = cycles_of(count)?;
     check_unused(block, count)?;
     turn_back_all(block, count, values);

@@ -26,7 +26,8 @@ const SAME: u8 = 4;
 
 const INVERT: u8 = 5;
 
-// Prints a line of at most 21 numbers, which 128 bytes hold. A line that can not be written is left out.
+// Prints a line of at most 21 numbers, which 128 bytes hold. A line that can not be written is left out. Nothing allocates, so that the
+// text goes into a buffer and has its length beside it.
 fn print_line(rt: &impl Print, numbers: &[u16])
     requires { length numbers.now ≤ 21 }
 {

@@ -1,13 +1,11 @@
 -- The array of lines is `place_of`, and so the panel filled by it is the panel.
-use Prim.Native.Nat.{◌<◌}
 use native.Mathlib.Omega.{arith}
 use lib.ListN.{get_or-replicate}
 use borrow.Author.Rules.{rules}
 use Rattle.netlist.proofs.InPlace.{checked}
-use Rattle.buffers_tables.specs.Panel.{panel_length, signal_of, column_of}
+use Rattle.buffers_tables.specs.Panel.{signal_of, column_of}
 use Rattle.buffers_load_files.specs.Loaded.{panel_byte}
 use Rattle.buffers_load_files.specs.Checked.{value_in}
-use Rattle.buffers_load_panel.specs.Lines.{LineNumbers}
 use Rattle.buffers_load_panel.proofs.Places.{placed_lines}
 use Rattle.buffers_load_panel.proofs.Panel.{panel_placed}
 use Rattle.buffers_load_panel.proofs.load_panel.Goals as goal
@@ -15,10 +13,8 @@ use Rattle.buffers_load_panel.proofs.load_panel.Goals as goal
 pub load_places-requires : goal.load_places-requires
 load_places-requires c = λ s h. get_or-replicate 4097 s 0 0 (omega arith)
 
-pub fill_by-requires : goal.fill_by-requires
-fill_by-requires c =
-    let lines : LineNumbers c.args.table.now.shape.slots c.load_places.new.places = placed_lines c.args.table.now.laid.sized _ c.load_places.ensures in
-    λ a low. let within : a < panel_length = omega (arith, c.told-panel) in search rules
+pub invariant_of-opening-clause-lines : goal.invariant_of-opening-clause-lines
+invariant_of-opening-clause-lines c = placed_lines c.args.table.now.laid.sized _ c.load_places.ensures
 
 pub returns : goal.returns
 returns c =

@@ -1,8 +1,8 @@
 -- `load_values` meets its contract. The invariant: the values are those that the lines before the cursor give.
-use mathlib.Core.Path.{◌∙◌, sym}
+use mathlib.Core.Path.{refl, ◌∙◌}
 use native.Mathlib.Omega.{arith}
 use borrow.Author.Rules.{rules}
-use Rattle.file_stim.proofs.Steps.{GivenAt, line_right, given_at, none_at}
+use Rattle.file_stim.proofs.Steps.{GivenAt, given_at, none_at}
 use Rattle.netlist.proofs.InPlace.{checked}
 use Rattle.buffers_load_values.specs.Values.{undefined_to}
 use Rattle.buffers_load_values.proofs.Values.{given_starts, given_more, given_ends, line_signal_few, line_value_few}
@@ -10,21 +10,21 @@ use Rattle.buffers_load_values.proofs.load_values.Goals as goal
 use Rattle.buffers_load_values.proofs.load_values.Goals.{In-Some}
 
 -- a line of time 0
-gives : (c : In-Some) → GivenAt c.args.stim.now 0 c.loop-line.cursor.line c.in-Some.line c.in-Some.next
-gives c = given_at _ _ c.requires _ _ c.loop-line.invariant.low _ _ (sym c.next_of.ensures ∙ c.in-Some.is)
+gives : (c : In-Some) → GivenAt c.args.stim.bytes.now 0 c.loop-line.cursor.1.0 c.in-Some.line c.in-Some.next.line
+gives c = given_at _ c.loop-line.invariant.same c.in-Some.ensures
 
 pub loop-line-init : goal.loop-line-init
 loop-line-init c =
-    given_starts c.args.net.now.net.now c.args.stim.now _ _ _ (c.fill_by.ensures (undefined_to c.from-signals.result) (λ s x low q. search rules)) c.told-values
-    (c.from-signals.ensures ∙ c.signals.ensures.0)
-
-pub next_of-requires : goal.next_of-requires
-next_of-requires c = line_right _ _ c.requires _ c.loop-line.invariant.low
+    record {
+      same = refl;
+      given = given_starts c.args.net.now.net.now c.args.stim.bytes.now _ _ _ (c.fill_by.ensures (undefined_to c.from-signals.result) (λ s x low q. search rules)) c.told-values
+          (c.from-signals.ensures ∙ c.signals.ensures.0);
+    }
 
 pub returns : goal.returns
 returns c =
-    given_ends _ _ (checked _ c.args.net.now.accepted) c.requires c.loop-line.invariant
-    (none_at _ _ c.requires _ _ c.loop-line.invariant.low (sym c.next_of.ensures ∙ c.in_default.is))
+    given_ends _ _ (checked _ c.args.net.now.accepted) c.requires c.loop-line.invariant.given
+    (none_at c.loop-line.invariant.same c.in_default.ensures)
 
 pub overflow_cast-values : goal.overflow_cast-values
 overflow_cast-values c =
@@ -34,10 +34,11 @@ overflow_cast-values c =
 pub bounds-values-from : goal.bounds-values-from
 bounds-values-from c =
     let g = gives (goal.at.bounds-values-from c).In-Some in
-    omega (arith, c.from.ensures, c.loop-line.invariant.size, g.signal_is, line_signal_few _ _ (checked _ c.args.net.now.accepted) c.requires _ g.before_end)
-
-pub loop-line-smaller : goal.loop-line-smaller
-loop-line-smaller c = let g = gives (goal.at.loop-line-smaller c).In-Some in omega (arith, g.before_end, g.follows)
+    omega (arith, c.from.ensures, g.signal_is, line_signal_few _ _ (checked _ c.args.net.now.accepted) c.requires _ g.before_end)
 
 pub loop-line-preserved : goal.loop-line-preserved
-loop-line-preserved c = rw c.from.ensures (given_more _ _ (checked _ c.args.net.now.accepted) c.requires c.loop-line.invariant (gives (goal.at.loop-line-preserved c).In-Some))
+loop-line-preserved c =
+    record {
+      same = c.in-Some.ensures.0.same ∙ c.loop-line.invariant.same;
+      given = rw c.from.ensures (given_more _ _ (checked _ c.args.net.now.accepted) c.requires c.loop-line.invariant.given (gives (goal.at.loop-line-preserved c).In-Some));
+    }

@@ -6,19 +6,25 @@ use native.Mathlib.Omega.{arith}
 use Rattle.model.specs.Refusal.{pass}
 use Rattle.model.proofs.Refusals.{first_stays, first_both}
 use Rattle.file_lines.proofs.Stages.{refused, passes, after, stops, renamed}
-use Rattle.session_answers.proofs.Calls.{leaves_lent, leaves_done}
+use Rattle.session_answers.proofs.Calls.{leaves_lent, leaves_done, array_lent, lent_refused}
 use Rattle.charts.specs.Checks.{counts_check, signals_check, rows_check, chart_check}
 use Rattle.charts.specs.Text.{page_text, printed_on}
 use Rattle.charts.proofs.Refusals.{ChartSizes, ChartCounts, lent_wrong, lent_pass, counts_right}
+use Rattle.std.specs.Array.{IsWholeChunk}
+use Rattle.charts.specs.Page.{page_length}
+use Rattle.charts.specs.declared.ChartRefusal.TheVariants.{WrongLength}
 use Rattle.charts.proofs.chart_checked.Goals as goal
-use Rattle.charts.proofs.chart_checked.Goals.{In_ok-check_counts}
+use Rattle.charts.proofs.chart_checked.Goals.{In_ok-page, In_ok-check_counts}
 
-sizes : (c : In_ok-check_counts) → ChartSizes c.args.signals.now c.args.values.now c.args.page.now
+whole : (c : In_ok-page) → IsWholeChunk c.args.page.now c.in_ok-page.page.now page_length
+whole c = array_lent c.as_mut_array.result (λ x. x.now) c.args.page.now page_length WrongLength c.as_mut_array.ensures.cases c.ok_or.ensures.value c.in_ok-page.was
+
+sizes : (c : In_ok-page) → ChartSizes c.args.signals.now c.args.values.now c.args.page.now
 sizes c =
     record {
       signals_size = c.in_ok-signals.ensures.1.long;
       values_size = c.in_ok-values.ensures.1.long;
-      page_size = c.in-Some.ensures.cases.long;
+      page_size = (whole c).long;
     }
 
 counted : (c : In_ok-check_counts) → counts_check c.args.count c.args.first c.args.cycles ≡ pass
@@ -40,21 +46,16 @@ returns-in_err-values c =
     c.from_residual-in_err-values.ensures.1
     refl
 
-pub returns-in_default : goal.returns-in_default
+pub returns-in_err-page : goal.returns-in_err-page
 unfolding chart_check
-returns-in_default c =
-    leaves_lent (refused refl (first_stays _ _ (lent_wrong _ _ _ (λ s. c.in_default.ensures.cases s.page_size)))) refl refl
+returns-in_err-page c =
+    lent_refused c.as_mut_array.result (λ x. x.now) c.args.page.now page_length WrongLength c.as_mut_array.ensures.cases c.ok_or.ensures.value c.in_err-page.was (λ none. refused refl (first_stays _ _ (lent_wrong _ _ _ (λ s. none s.page_size)))) c.from_residual-in_err-page.ensures.1
 
 pub returns-in_err-check_counts : goal.returns-in_err-check_counts
 unfolding chart_check
 returns-in_err-check_counts c =
-    let lent : ChartSizes c.args.signals.now c.args.values.now c.args.page.now =
-    record {
-      signals_size = c.in_ok-signals.ensures.1.long;
-      values_size = c.in_ok-values.ensures.1.long;
-      page_size = c.in-Some.ensures.cases.long;
-    } in
-    leaves_lent (after (lent_pass _ _ _ lent) (stops c.in_err-check_counts.ensures refl _)) c.from_residual-in_err-check_counts.ensures.1 c.in-Some.ensures.cases.same
+    let at = (goal.at.returns-in_err-check_counts c).In_ok-page in
+    leaves_lent (after (lent_pass _ _ _ (sizes at)) (stops c.in_err-check_counts.ensures refl _)) c.from_residual-in_err-check_counts.ensures.1 (whole at).same
 
 pub overflow_cast-plot-2 : goal.overflow_cast-plot-2
 overflow_cast-plot-2 c =
@@ -68,38 +69,38 @@ invariant_of-plot c =
 pub returns-in_err-check_signals : goal.returns-in_err-check_signals
 unfolding chart_check
 returns-in_err-check_signals c =
-    let at = (goal.at.returns-in_err-check_signals c).In_ok-check_counts in
+    let at = goal.at.returns-in_err-check_signals c in
     leaves_lent
-    (after (lent_pass _ _ _ (sizes at))
-    (after (counted at)
+    (after (lent_pass _ _ _ (sizes at.In_ok-page))
+    (after (counted at.In_ok-check_counts)
     (stops (renamed refl (ap (λ (s : List ℕ). signals_check s c.args.count) c.in_ok-signals.ensures.1.same) c.in_err-check_signals.ensures) refl _)))
     c.from_residual-in_err-check_signals.ensures.1
-    c.in-Some.ensures.cases.same
+    (whole at.In_ok-page).same
 
 pub returns-in_err-check_values : goal.returns-in_err-check_values
 unfolding chart_check
 returns-in_err-check_values c =
-    let at = (goal.at.returns-in_err-check_values c).In_ok-check_counts in
+    let at = goal.at.returns-in_err-check_values c in
     let chosen = renamed refl (ap (λ (s : List ℕ). signals_check s c.args.count) c.in_ok-signals.ensures.1.same) c.check_signals.ensures in
     leaves_lent
-    (after (lent_pass _ _ _ (sizes at))
-    (after (counted at)
+    (after (lent_pass _ _ _ (sizes at.In_ok-page))
+    (after (counted at.In_ok-check_counts)
     (after (passes chosen c.in_ok-check_signals.was)
     (renamed refl (ap (λ (v : List ℕ). rows_check v c.args.count c.args.cycles) c.in_ok-values.ensures.1.same) c.in_err-check_values.ensures))))
     c.from_residual-in_err-check_values.ensures.1
-    c.in-Some.ensures.cases.same
+    (whole at.In_ok-page).same
 
 pub returns : goal.returns
 unfolding chart_check
 returns c =
-    let at = (goal.at.returns c).In_ok-check_counts in
+    let at = goal.at.returns c in
     let s = c.in_ok-signals.ensures.1.same in
     let v = c.in_ok-values.ensures.1.same in
     let chosen = renamed refl (ap (λ (x : List ℕ). signals_check x c.args.count) s) c.check_signals.ensures in
     let recorded = renamed refl (ap (λ (x : List ℕ). rows_check x c.args.count c.args.cycles) v) c.check_values.ensures in
     leaves_done
-    (first_both _ _ (lent_pass _ _ _ (sizes at))
-    (first_both _ _ (counted at) (first_both _ _ (passes chosen c.in_ok-check_signals.was) (passes recorded c.in_ok-check_values.was))))
+    (first_both _ _ (lent_pass _ _ _ (sizes at.In_ok-page))
+    (first_both _ _ (counted at.In_ok-check_counts) (first_both _ _ (passes chosen c.in_ok-check_signals.was) (passes recorded c.in_ok-check_values.was))))
     (c.fill_page.ensures
-    ∙ ap (λ (x : List ℕ). printed_on x (page_text c.in_ok-signals.signals.now c.in_ok-values.values.now c.args.count c.args.first c.args.cycles)) c.in-Some.ensures.cases.same
+    ∙ ap (λ (x : List ℕ). printed_on x (page_text c.in_ok-signals.signals.now c.in_ok-values.values.now c.args.count c.args.first c.args.cycles)) (whole at.In_ok-page).same
     ∙ ap₂ (λ (x y : List ℕ). printed_on c.args.page.now (page_text x y c.args.count c.args.first c.args.cycles)) s v)

@@ -12,7 +12,7 @@ use Rattle.file_checks.proofs.check_files.Goals as goal
 use Rattle.file_checks.proofs.check_files.Goals.{In-Ok}
 
 -- NET is accepted, where its answer says so
-net_right : (c : In-Ok) → net_check 4096 c.args.net.now ≡ pass
+net_right : (c : In-Ok) → net_check 4096 c.args.files.now.net.now ≡ pass
 net_right c = passes c.check_net-first.ensures c.in-Ok.is
 
 pub returns-in_default : goal.returns-in_default

@@ -1,13 +1,12 @@
 -- The first of the checks that refuses answers for all.
 use mathlib.Core.Path.{◌≡◌, refl}
 use borrow.Author.Rules.{rules}
-use Rattle.std.proofs.lemmas.Result.{err_from_is_err_and}
 use Rattle.logic.specs.Test.{all}
 use Rattle.model.specs.Netlist.{network}
 use Rattle.model.specs.Module.{send_right, reception_right, operand_right}
 use Rattle.model.specs.ModuleFile.{module_of, placed, sending, receiving, operands}
 use Rattle.file_lines.specs.Answer.{Answers}
-use Rattle.file_lines.proofs.Stages.{renamed, passes, after, stops}
+use Rattle.file_lines.proofs.Stages.{renamed, passes, after, stops, handed}
 use Rattle.file_mod_lines.specs.Answer.{mod_refusal}
 use Rattle.file_mod_lines.specs.declared.ModRefusal.TheVariants.{Send, Reception, WrongOperand}
 use Rattle.file_mod.proofs.Formed.{net_signals}
@@ -40,21 +39,18 @@ read c =
 
 pub returns-in_err-check_placements : goal.returns-in_err-check_placements
 returns-in_err-check_placements c =
-    let p = err_from_is_err_and c.from_residual.result c.from_residual.ensures.1 in
-    rw (p.1, p.2) (stops (placements (goal.at.returns-in_err-check_placements c).After-check_placements) c.in_err-check_placements.was _)
+    handed c.from_residual.ensures.1 (stops (placements (goal.at.returns-in_err-check_placements c).After-check_placements) c.in_err-check_placements.was _)
 
 pub returns-in_err-map_err : goal.returns-in_err-map_err
 returns-in_err-map_err c =
-    let p = err_from_is_err_and c.from_residual-in_err-map_err.result c.from_residual-in_err-map_err.ensures.1 in
     after (passes (placements (goal.at.returns-in_err-map_err c).After-check_placements) c.in_ok-check_placements.was)
-    (rw (p.1, p.2) (stops (sends (goal.at.returns-in_err-map_err c).After-map_err) c.in_err-map_err.was _))
+    (handed c.from_residual-in_err-map_err.ensures.1 (stops (sends (goal.at.returns-in_err-map_err c).After-map_err) c.in_err-map_err.was _))
 
 pub returns-in_err-map_err-2 : goal.returns-in_err-map_err-2
 returns-in_err-map_err-2 c =
-    let p = err_from_is_err_and c.from_residual-in_err-map_err-2.result c.from_residual-in_err-map_err-2.ensures.1 in
     after (passes (placements (goal.at.returns-in_err-map_err-2 c).After-check_placements) c.in_ok-check_placements.was)
     (after (passes (sends (goal.at.returns-in_err-map_err-2 c).After-map_err) c.in_ok-map_err.was)
-    (rw (p.1, p.2) (stops (receptions (goal.at.returns-in_err-map_err-2 c).After-map_err-2) c.in_err-map_err-2.was _)))
+    (handed c.from_residual-in_err-map_err-2.ensures.1 (stops (receptions (goal.at.returns-in_err-map_err-2 c).After-map_err-2) c.in_err-map_err-2.was _)))
 
 pub returns : goal.returns
 returns c =

@@ -1,36 +1,33 @@
 -- 20 where line 1 is broken, 21 where its layout is wrong, else P and C are accepted.
-use mathlib.Core.Path.{◌≡◌, refl, sym, ◌∙◌, ap}
-use mathlib.Core.Bool.{true, not}
-use borrow.Author.Tests.{not-true, not-false}
-use Rattle.std.specs.Prelude.{Ok}
-use Rattle.fields.specs.Line.{is_line_at}
+use Rattle.std.proofs.Common.{refl, sym, ◌∙◌, ap, arith, Ok}
 use Rattle.fields.proofs.Lines.{line_right, line_wrong}
 use Rattle.model.specs.ModuleFile.{mod_header}
 use Rattle.model.proofs.Refusals.{unless_pass}
-use Rattle.file_lines.proofs.Stages.{refused, accepted}
+use Rattle.file_lines.proofs.Stages.{refused, accepted, handed}
 use Rattle.file_lines.proofs.Lines.{test_stops, test_goes_on, test_fails}
+use Rattle.file_mod_lines.specs.Answer.{mod_refusal}
 use Rattle.file_mod_lines.proofs.Lines.{same_shape}
 use Rattle.file_mod_lines.proofs.check_header.Goals as goal
-use Rattle.file_mod_lines.proofs.check_header.Goals.{In-Some}
 
--- line 1 has its form
-form : (c : In-Some) → is_line_at c.args.modfile.now 0 14 ≡ true
-form c = line_right _ 0 14 _ (sym c.read_line.ensures ∙ c.in-Some.is)
-
-pub returns-in_default : goal.returns-in_default
+pub returns-in_err-ok_or : goal.returns-in_err-ok_or
 unfolding mod_header
-returns-in_default c = refused refl (test_stops _ 20 1 _ (line_wrong _ 0 14 (sym c.read_line.ensures ∙ c.in_default.is)))
+returns-in_err-ok_or c =
+    let wrong = line_wrong _ 0 14 c.read_line.ensures _ c.in_err-ok_or.ensures.value in
+    handed c.from_residual.ensures.1 (refused (ap mod_refusal wrong.1) (test_stops _ 20 1 _ wrong.0))
 
-pub invariant_of-line : goal.invariant_of-line
-invariant_of-line c = record { right = form (goal.at.invariant_of-line c).In-Some }
+pub new-line-requires : goal.new-line-requires
+new-line-requires c = (omega arith, line_right _ 0 14 c.read_line.ensures _ c.in_ok-ok_or.ensures.value)
 
-pub returns-then-not-is_header : goal.returns-then-not-is_header
+pub returns-then-not-is_header_laid : goal.returns-then-not-is_header_laid
 unfolding mod_header
-returns-then-not-is_header c =
-    refused refl (test_goes_on _ 20 1 _ (form (goal.at.returns-then-not-is_header c).In-Some) ∙ test_fails _ 21 1 (sym c.is_header.ensures ∙ not-true _ (ap not c.if-not-is_header.true)))
+returns-then-not-is_header_laid c =
+    let laid = rw (c.new-line.ensures.0, c.new-line.ensures.1) at c.if-not-is_header_laid.ensures in
+    refused refl (test_goes_on _ 20 1 _ (line_right _ 0 14 c.read_line.ensures _ c.in_ok-ok_or.ensures.value) ∙ test_fails _ 21 1 (sym laid))
 
 pub returns : goal.returns
 unfolding mod_header
 returns c =
-    accepted (ap Ok (same_shape c.number.ensures c.number-2.ensures))
-    (test_goes_on _ 20 1 _ (form (goal.at.returns c).In-Some) ∙ unless_pass _ 21 1 (sym c.is_header.ensures ∙ not-false _ (ap not c.if-not-is_header.false)))
+    let laid = rw (c.new-line.ensures.0, c.new-line.ensures.1) at c.if-not-is_header_laid.ensures in
+    let processors = rw (c.new-line.ensures.0, c.new-line.ensures.1) at c.number.ensures in
+    let slots = rw (c.new-line.ensures.0, c.new-line.ensures.1) at c.number-2.ensures in
+    accepted (ap Ok (same_shape processors slots)) (test_goes_on _ 20 1 _ (line_right _ 0 14 c.read_line.ensures _ c.in_ok-ok_or.ensures.value) ∙ unless_pass _ 21 1 (sym laid))

@@ -3,5 +3,5 @@ use Rattle.netlist.proofs.InPlace.{checked}
 use Rattle.file_net_graph.proofs.Checked.{checked_lines}
 use Rattle.file_net_ranks.proofs.rank_signals.Goals as goal
 
-pub load_graph-requires-clause-lines : goal.load_graph-requires-clause-lines
-load_graph-requires-clause-lines c = checked_lines _ (checked _ c.args.net.now.accepted) _ c.signals-size.ensures.0
+pub new-lines-requires : goal.new-lines-requires
+new-lines-requires c = checked_lines _ (checked _ c.args.net.now.accepted) _ c.signals.ensures.0

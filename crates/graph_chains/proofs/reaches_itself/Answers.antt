@@ -9,15 +9,15 @@ loop-node-init c =
     first_turn _ _ c.args.graph.now.is_graph.each _ _ (c.push_feeders.ensures ∙ ap (λ (at : State). pushed_all c.args.graph.now.edges.now at c.args.s) c.new-search.ensures)
 
 pub push_feeders-requires-in-Some : goal.push_feeders-requires-in-Some
-push_feeders-requires-in-Some c = rw c.from.ensures (top_low c.loop-node.invariant c.in-Some.ensures)
+push_feeders-requires-in-Some c = top_low c.loop-node.invariant c.in-Some.ensures
 
 pub loop-node-smaller : goal.loop-node-smaller
 loop-node-smaller c =
-    turn_less _ _ c.args.graph.now.is_graph.each c.args.s _ _ _ _ _ c.in-Some.ensures c.loop-node.invariant.room (rw c.from.ensures at c.push_feeders-in-Some.ensures)
+    turn_less _ _ c.args.graph.now.is_graph.each c.args.s _ _ _ _ _ c.in-Some.ensures c.loop-node.invariant.room c.push_feeders-in-Some.ensures
 
 pub loop-node-preserved : goal.loop-node-preserved
 loop-node-preserved c =
-    next_turn _ _ c.args.graph.now.is_graph.each _ _ _ _ _ _ c.in-Some.ensures c.loop-node.invariant (rw c.from.ensures at c.push_feeders-in-Some.ensures)
+    next_turn _ _ c.args.graph.now.is_graph.each _ _ _ _ _ _ c.in-Some.ensures c.loop-node.invariant c.push_feeders-in-Some.ensures
 
 pub returns : goal.returns
-returns c = search_tells _ _ _ _ c.loop-node.invariant c.in_default.ensures.0
+returns c = rw c.from.ensures (search_tells _ _ _ _ c.loop-node.invariant c.in_default.ensures.0)

@@ -1,9 +1,6 @@
 -- One cycle of the session, whose watch ends no run.
-use Rattle.listing_cycle.proofs.Cycling.{right_tables, right_memory, ready_watching, cycle_left}
+use Rattle.listing_cycle.proofs.Cycling.{right_memory, ready_watching, cycle_left}
 use Rattle.listing_cycle.proofs.run_one.Goals as goal
-
-pub run-told-requires-clause-tables : goal.run-told-requires-clause-tables
-run-told-requires-clause-tables c = right_tables c.requires.right
 
 pub run-told-requires-clause-watching : goal.run-told-requires-clause-watching
 run-told-requires-clause-watching c = ready_watching _ _ _ _ c.requires

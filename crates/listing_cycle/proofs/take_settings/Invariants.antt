@@ -1,5 +1,6 @@
 -- The settings so far are those of the lines passed.
 use Prim.Native.Nat.{◌-◌}
+use mathlib.Core.Path.{◌≡◌}
 use Rattle.model.specs.Stimulus.{stim_count}
 use Rattle.listing_cycle.specs.Feeding.{Fed, SameNumbers}
 use Rattle.listing_cycle.proofs.take_settings.Given as goal
@@ -7,9 +8,10 @@ use Rattle.listing_cycle.proofs.take_settings.Given as goal
 abbrev pub invariant-loop-line : goal.invariant-loop-line
 invariant-loop-line l =
     record {
-      fed : Fed l.stim l.initial.panel l.time.0 l.initial.cursor.line l.panel l.cursor.line;
+      same : l.cursor.stimulus ≡ l.fn.cursor.stimulus;
+      fed : Fed l.fn.cursor.stimulus.bytes.now l.initial.panel l.time.0 l.fn.cursor.line l.panel l.cursor.line;
       same_numbers : SameNumbers l.initial.session l.session;
     }
 
 abbrev pub decreases-loop-line : goal.decreases-loop-line
-decreases-loop-line l = stim_count l.stim - l.cursor.line
+decreases-loop-line l = stim_count l.fn.cursor.stimulus.bytes.now - l.cursor.line

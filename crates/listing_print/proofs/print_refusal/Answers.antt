@@ -9,25 +9,21 @@ use Rattle.listing_print.proofs.Printing.{written, line_short, refusal_part, ref
 use Rattle.listing_print.proofs.print_refusal.Goals as goal
 
 pub slice_bounds-line-end : goal.slice_bounds-line-end
-slice_bounds-line-end g c =
-    omega (arith, c.write_refusal-length.auto.answer, line_short _ _ c.write_refusal-length.ensures.value)
+slice_bounds-line-end g c = omega (arith, line_short _ _ c.write_refusal-length.ensures.value)
 
 pub slice_bounds-put-end : goal.slice_bounds-put-end
 slice_bounds-put-end g c =
-    prefix_length c.write_refusal-length.result c.write_refusal-length.new.out (omega (arith, c.write_refusal-length.auto.answer, line_short _ _ c.write_refusal-length.ensures.value))
+    prefix_length c.write_refusal-length.result c.write_refusal-length.new.out (omega (arith, line_short _ _ c.write_refusal-length.ensures.value))
 
 pub put-requires-clause-part_value : goal.put-requires-clause-part_value
 put-requires-clause-part_value g c =
-    let one = refusal_count _ c.args.answer c.requires.answer_value c.requires.refused in
-    let line = written (refused_text _) _ _ _ c.write_refusal-length.ensures.out_after c.write_refusal-length.ensures.value (refused_short _) in
-    line ∙ refusal_part _ c.args.answer c.requires.answer_value c.requires.refused _
+    written (refused_text _) _ _ _ c.write_refusal-length.ensures.out_after c.write_refusal-length.ensures.value (refused_short _)
+    ∙ refusal_part _ c.args.refusal c.requires.refusal_value _
 
 pub put-requires-clause-parts_bound : goal.put-requires-clause-parts_bound
 put-requires-clause-parts_bound g c =
-    let one = refusal_count _ c.args.answer c.requires.answer_value c.requires.refused in
-    let line = written (refused_text _) _ _ _ c.write_refusal-length.ensures.out_after c.write_refusal-length.ensures.value (refused_short _) in
-    omega (arith, one, ap (λ (p : Printed). p.parts) c.requires.nothing_yet)
+    omega (arith, refusal_count _ c.args.refusal c.requires.refusal_value, ap (λ (p : Printed). p.parts) c.requires.nothing_yet)
 
 pub returns : goal.returns
 returns g c =
-    record { handed = refusal_handed _ c.args.answer c.requires.answer_value c.requires.refused _ _ _ (ap (λ (p : Printed). p.parts) c.requires.nothing_yet) c.put.ensures.counted }
+    record { handed = refusal_handed _ c.args.refusal c.requires.refusal_value _ (ap (λ (p : Printed). p.parts) c.requires.nothing_yet) _ c.put.ensures.counted }

@@ -17,17 +17,16 @@ panel_is c = array_is _ _ (λ y. y.now) c.as_array.ensures.cases c.unwrap.ensure
 memory_is : (c : After-unwrap-in-Ok) → c.unwrap-in-Ok.result.now ≡ c.args.memory.now
 memory_is c = array_is _ _ (λ y. y.now) c.as_array-in-Ok.ensures.cases c.unwrap-in-Ok.ensures
 
-pub read_in-requires-clause-signals_high : goal.read_in-requires-clause-signals_high
-read_in-requires-clause-signals_high c =
-    rw (panel_is (goal.at.read_in-requires-clause-signals_high c).After-unwrap-in-Ok) (right_panel _ _ c.readiness.ensures c.in-Ok.is).1
-
-pub read_in-requires-clause-processors_low : goal.read_in-requires-clause-processors_low
-read_in-requires-clause-processors_low c =
-    rw (panel_is (goal.at.read_in-requires-clause-processors_low c).After-unwrap-in-Ok) (right_processor _ _ c.readiness.ensures c.in-Ok.is)
-
-pub read_in-requires-clause-memory_bytes : goal.read_in-requires-clause-memory_bytes
-read_in-requires-clause-memory_bytes c =
-    rw (memory_is (goal.at.read_in-requires-clause-memory_bytes c).After-unwrap-in-Ok) (right_memory _ _ c.readiness.ensures c.in-Ok.is)
+pub invariant_of-readable : goal.invariant_of-readable
+invariant_of-readable c =
+    let at = (goal.at.invariant_of-readable c).After-unwrap-in-Ok in
+    let right = right_panel _ _ c.readiness.ensures c.in-Ok.is in
+    record {
+      panel_size = rw (panel_is at) right.0;
+      signals_high = rw (panel_is at) right.1;
+      processors_low = rw (panel_is at) (right_processor _ _ c.readiness.ensures c.in-Ok.is);
+      memory_bytes = rw (memory_is at) (right_memory _ _ c.readiness.ensures c.in-Ok.is);
+    }
 
 pub returns-in-Err : goal.returns-in-Err
 returns-in-Err c =

@@ -27,13 +27,13 @@ pub unwrap-requires : goal.unwrap-requires
 unwrap-requires c =
     c.as_mut_array.ensures.variant.1 (same_sizes _ _ _ (sym c.lengths_right.ensures ∙ c.if-not-lengths_right.false)).panel_size
 
-pub unwrap-requires-in_default : goal.unwrap-requires-in_default
-unwrap-requires-in_default c =
-    c.as_mut_array-in_default.ensures.variant.1 (same_sizes _ _ _ (sym c.lengths_right.ensures ∙ c.if-not-lengths_right.false)).program_size
+pub unwrap-requires-2 : goal.unwrap-requires-2
+unwrap-requires-2 c =
+    c.as_mut_array-2.ensures.variant.1 (same_sizes _ _ _ (sym c.lengths_right.ensures ∙ c.if-not-lengths_right.false)).program_size
 
-pub unwrap-requires-in_default-2 : goal.unwrap-requires-in_default-2
-unwrap-requires-in_default-2 c =
-    c.as_mut_array-in_default-2.ensures.variant.1 (same_sizes _ _ _ (sym c.lengths_right.ensures ∙ c.if-not-lengths_right.false)).memory_size
+pub unwrap-requires-3 : goal.unwrap-requires-3
+unwrap-requires-3 c =
+    c.as_mut_array-3.ensures.variant.1 (same_sizes _ _ _ (sym c.lengths_right.ensures ∙ c.if-not-lengths_right.false)).memory_size
 
 pub load-requires : goal.load-requires
 load-requires c =
@@ -44,8 +44,19 @@ load-requires c =
       stim_value = stim_accepted 4096 _ e;
     }
 
-pub returns-in_default : goal.returns-in_default
-returns-in_default c =
+pub returns-in-Err : goal.returns-in-Err
+returns-in-Err c =
+    let e = right_length _ _ _ (sym c.lengths_right.ensures ∙ c.if-not-lengths_right.false)
+    ∙ files_refused _ _ c.check_files.ensures c.in-Err.is in
+    record {
+      answer = rw e c.refuse-in-Err.ensures.value;
+      panel = rw e (c.refuse-in-Err.ensures.panel_after _);
+      program = rw e (c.refuse-in-Err.ensures.program_after _);
+      memory = rw e (c.refuse-in-Err.ensures.memory_after _);
+    }
+
+pub returns : goal.returns
+returns c =
     let files = files_of c.args.net.now c.args.modfile.now c.args.stim.now in
     let e = right_length _ _ _ (sym c.lengths_right.ensures ∙ c.if-not-lengths_right.false)
     ∙ files_accepted _ _ c.check_files.ensures c.in_default.is in
@@ -54,15 +65,4 @@ returns-in_default c =
       panel = accepted_left e _ (panel_of files) _ c.load.ensures.panel_after;
       program = accepted_left e _ (program_of files) _ c.load.ensures.program_after;
       memory = accepted_left e _ (opening_bytes files) _ c.load.ensures.memory_after;
-    }
-
-pub returns : goal.returns
-returns c =
-    let e = right_length _ _ _ (sym c.lengths_right.ensures ∙ c.if-not-lengths_right.false)
-    ∙ files_refused _ _ c.check_files.ensures c.in-Err.is in
-    record {
-      answer = rw e c.refuse-2.ensures.value;
-      panel = rw e (c.refuse-2.ensures.panel_after _);
-      program = rw e (c.refuse-2.ensures.program_after _);
-      memory = rw e (c.refuse-2.ensures.memory_after _);
     }

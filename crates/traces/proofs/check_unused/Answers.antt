@@ -1,22 +1,24 @@
--- The invariant: from the count to cycle c no bit is set.
-use mathlib.Core.Path.{refl}
-use native.Mathlib.Omega.{arith}
+-- The cycles past the count are judged, which is the judgement of all (`unused_judged`).
+use Rattle.std.proofs.Common.{rules, ◌≡◌, refl, ◌∙◌, eqb, sym, arith}
+use Rattle.std.proofs.lemmas.Iterator.{YieldsList-from_range}
+use Rattle.std.proofs.lemmas.Iterator.Search.{all_from_yields_List}
+use Rattle.model.specs.Refusal.{unless}
 use Rattle.file_lines.proofs.Stages.{refused, accepted}
+use Rattle.traces.specs.Turned.{block_value, values_length, unused_clear}
 use Rattle.traces.specs.Checks.{unused_check}
-use Rattle.traces.proofs.Unused.{unused_starts, unused_more, unused_set, unused_ends}
+use Rattle.traces.proofs.Unused.{unused_judged}
 use Rattle.traces.proofs.check_unused.Goals as goal
+use Rattle.traces.proofs.check_unused.Goals.{After-all}
 
-pub loop-c-init : goal.loop-c-init
-loop-c-init c = unused_starts _ _
+judged : (c : After-all) → c.all.result ≡ unused_clear c.args.block.now c.args.count
+judged c =
+    all_from_yields_List (λ k. eqb (block_value c.args.block.now k) 0) _ _ c.all.result c.all.ensures.ran (YieldsList-from_range c.args.count values_length _ refl refl) (λ x b q h. search rules)
+    ∙ unused_judged c.args.block.now c.args.count (omega (arith, c.requires))
 
-pub returns-then-block_value-ne0 : goal.returns-then-block_value-ne0
-unfolding unused_check
-returns-then-block_value-ne0 c =
-    refused refl (unused_set _ _ c.loop-c.c c.block_value.ensures c.loop-c.auto.c c.loop-c-test.true c.if-block_value-ne0.true)
-
-pub loop-c-preserved : goal.loop-c-preserved
-loop-c-preserved c = unused_more _ _ c.loop-c.c c.block_value.ensures c.loop-c.invariant c.if-block_value-ne0.false
+pub returns-then-all : goal.returns-then-all
+unfolding unused_check unless
+returns-then-all c = accepted refl (rw (sym (judged (goal.at.returns-then-all c).After-all) ∙ c.if-all.true))
 
 pub returns : goal.returns
-unfolding unused_check
-returns c = accepted refl (unused_ends _ _ c.loop-c.c (omega (arith, c.requires)) c.loop-c-test.false c.loop-c.invariant)
+unfolding unused_check unless
+returns c = refused refl (rw (sym (judged (goal.at.returns c).After-all) ∙ c.if-all.false))

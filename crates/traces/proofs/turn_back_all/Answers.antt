@@ -1,9 +1,9 @@
--- The invariant: the values before the cycle are the block's.
-use Rattle.logic.proofs.Filling.{fill_ends}
+-- Each value is made at its own cycle.
+use Rattle.std.proofs.Common.{rules}
+use Rattle.traces.proofs.Turning.{made_listed}
 use Rattle.traces.specs.Turned.{turned_back}
-use native.Mathlib.Omega.{arith}
 use Rattle.traces.proofs.turn_back_all.Goals as goal
 
 pub returns : goal.returns
 unfolding turned_back
-returns c = fill_ends c.loop-cycle.invariant (omega arith)
+returns c = made_listed _ _ (λ x y q k. search rules) _ _ c.from_fn.ensures.items

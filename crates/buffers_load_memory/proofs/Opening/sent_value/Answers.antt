@@ -1,7 +1,9 @@
 -- Nothing is received (`nothing_sent`), or the sender's line says what is sent (`something_sent`).
-use mathlib.Core.Path.{refl, sym, ◌∙◌}
+use mathlib.Core.Path.{refl, sym, ap, ◌∙◌}
 use borrow.Author.Tests.{eqb-true, eqb-false}
 use Rattle.model.specs.ModuleFile.{module_of}
+use Rattle.instruction.specs.Operand.{location_of}
+use Rattle.instruction.proofs.Pairs.{location_of_pair}
 use Rattle.file_mod_table.proofs.Senders.{sender_is, no_sender_is}
 use Rattle.buffers_load_files.specs.Checked.{value_in}
 use Rattle.buffers_load_memory.proofs.Memory.{nothing_sent, something_sent}
@@ -15,6 +17,8 @@ returns-in_default c =
 pub returns : goal.returns
 returns c =
     let from = sender_is _ _ (sym c.sender_at.ensures.value ∙ c.in-Some.is) in
-    let m = module_of c.args.self.now.table.now.modfile.now in
-    c.local_value.ensures
-    ∙ sym (something_sent m (value_in c.args.self.now.values.now) _ _ _ (sym from.same) (λ e. eqb-false _ _ from.some (from.same ∙ e)) _ c.send_location_at-location.ensures.0)
+    let there = c.of_processor-from.ensures in
+    let send = rw (there.0, there.1) at c.send_at.ensures.value in
+    let location = c.location-location.ensures ∙ ap location_of send ∙ location_of_pair _ _ in
+    (rw (c.at.ensures.0, c.at.ensures.1, there.0) at c.local_value.ensures)
+    ∙ sym (something_sent (module_of c.args.self.now.table.now.modfile.now) (value_in c.args.self.now.values.now) _ _ _ (sym from.same) (λ e. eqb-false _ _ from.some (from.same ∙ e)) _ location)

@@ -1,20 +1,19 @@
 -- Column 13 is the processor received from, by the definition of the module; one that is received from is the module's (`sender_low`).
-use mathlib.Core.Path.{◌∙◌}
+use mathlib.Core.Path.{sym, ◌∙◌}
 use native.Mathlib.Omega.{arith}
+use borrow.Author.Tests.{eqb-false}
 use Rattle.model.specs.ModuleFile.{module_of}
-use Rattle.file_mod_table.proofs.Slots.{line_within, sender_none, sender_some, sender_low}
+use Rattle.file_mod_table.proofs.Slots.{line_within, sender_low, sender_small}
+use Rattle.file_mod_table.proofs.Senders.{sender_is}
 use Rattle.file_mod_table.proofs.ModTable.sender_at.Goals as goal
 
-pub returns-then-sender-eq-NO_SENDER-clause-value : goal.returns-then-sender-eq-NO_SENDER-clause-value
-unfolding module_of
-returns-then-sender-eq-NO_SENDER-clause-value c = sender_none _ _ c.column_at-sender.ensures c.if-sender-eq-NO_SENDER.true
+pub overflow_cast-column_at : goal.overflow_cast-column_at
+overflow_cast-column_at c =
+    omega (arith, c.column_at.ensures, sender_small _ _ _ _ (line_within c.args.self.now.laid c.requires))
 
-pub returns-else-sender-eq-NO_SENDER-clause-value : goal.returns-else-sender-eq-NO_SENDER-clause-value
+pub returns-clause-within : goal.returns-clause-within
 unfolding module_of
-returns-else-sender-eq-NO_SENDER-clause-value c = sender_some _ _ c.column_at-sender.ensures c.if-sender-eq-NO_SENDER.false
-
-pub returns-else-sender-eq-NO_SENDER-clause-within : goal.returns-else-sender-eq-NO_SENDER-clause-within
-unfolding module_of
-returns-else-sender-eq-NO_SENDER-clause-within c =
-    let low = sender_low _ _ _ _ (line_within c.args.self.now.laid c.requires) (λ e. c.if-sender-eq-NO_SENDER.false (c.column_at-sender.ensures ∙ e)) in
-    omega (arith, c.column_at-sender.ensures, low, c.args.self.now.laid.sized.processors)
+returns-clause-within c =
+    let from = sender_is _ _ (sym c.sender_numbered.ensures ∙ c.in_ok-processor.was) in
+    let low = sender_low _ _ _ _ (line_within c.args.self.now.laid c.requires) (λ e. eqb-false _ _ from.some (c.column_at.ensures ∙ e)) in
+    omega (arith, c.column_at.ensures, c.from.ensures, from.same, low, c.args.self.now.laid.sized.processors)

@@ -10,5 +10,5 @@ returns-then-eq c = c.if-eq.true ∙ sym (sources_input _ _ _ c.field.ensures c.
 
 pub returns-else-eq : goal.returns-else-eq
 returns-else-eq c =
-    all_in_range (source_right c.args.self.now.net.now c.args.self.now.line) _ c.all.ensures.ran (λ x b q h. search rules)
+    all_in_range (source_right c.args.self.now.fields.bytes.now c.args.self.now.line) _ c.all.ensures.ran (λ x b q h. search rules)
     ∙ sym (sources_gate _ _ _ c.field.ensures c.try_from.ensures (λ e. search rules))

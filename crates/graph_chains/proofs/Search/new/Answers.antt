@@ -1,5 +1,6 @@
 -- `new` has no mark and an empty stack.
 use mathlib.Core.Path.{sym, subst, ap}
+use mathlib.Core.Bool.{false}
 use mathlib.Core.List.{List}
 use Prim.Native.Nat.{ℕ}
 use lib.ListN.{replicate}
@@ -9,7 +10,7 @@ use Rattle.graph_chains.proofs.Searching.{blank_room}
 use Rattle.graph_chains.proofs.Search.new.Goals as goal
 
 pub invariant_of-result : goal.invariant_of-result
-invariant_of-result c = record { room = subst (λ (s : List ℕ). Room (state (replicate places 0) s)) (sym c.new.ensures) blank_room }
+invariant_of-result c = record { room = subst (λ (s : List ℕ). Room (state (replicate places false) s)) (sym c.new.ensures) blank_room }
 
 pub returns : goal.returns
-returns c = ap (state (replicate places 0)) c.new.ensures
+returns c = ap (state (replicate places false)) c.new.ensures

@@ -4,4 +4,4 @@ use Rattle.graph_ranks.proofs.Graph.visit.Goals as goal
 
 pub returns : goal.returns
 returns c =
-    visit_new c.args.self.now c.requires.ranked_so_far _ _ (record { low = c.requires.is_node.0; high = c.requires.is_node.1; chosen = c.if-self-node-ne1.false }) c.if-ranks-node-ne0.false c.in-Some.ensures
+    visit_new c.args.self.now c.requires.ranked_so_far _ _ _ c.from-place.ensures c.requires.is_node c.if-not-self-place.false c.if-ranks-place-ne0.false c.in-Some.ensures

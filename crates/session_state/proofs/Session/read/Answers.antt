@@ -15,24 +15,22 @@ returns-then-not-is_signal c =
     λ program.
     rw c.refused.ensures
     (tells _ _ _ _ _
-    (read_no_signal c.args.panel.now program c.args.memory.now (head_of c.args.self c.args.panel.now) c.args.signal (fails _ _ c.is_signal.ensures (ap not c.if-not-is_signal.true)))
-    refl refl refl (sym (hands_own _ c.told-panel)))
+    (read_no_signal c.args.readable.now.panel.now program c.args.readable.now.memory.now (head_of c.args.self c.args.readable.now.panel.now) c.args.signal (fails _ _ c.is_signal.ensures (ap not c.if-not-is_signal.true)))
+    refl refl refl (sym (hands_own _ c.args.readable.now.panel_size)))
 
 pub overflow_cast-signal : goal.overflow_cast-signal
 overflow_cast-signal c =
-    let l = signal_high c.args.panel.now c.args.signal (passes _ _ c.is_signal.ensures (ap not c.if-not-is_signal.false)) in
-    omega arith
+    let l = signal_high c.args.readable.now.panel.now c.args.signal (passes _ _ c.is_signal.ensures (ap not c.if-not-is_signal.false)) in
+    omega (arith, c.args.readable.now.signals_high)
 
-pub value_of-value-requires-clause-placed : goal.value_of-value-requires-clause-placed
-value_of-value-requires-clause-placed c =
+pub value_of-value-requires : goal.value_of-value-requires
+value_of-value-requires c =
     let there = passes _ _ c.is_signal.ensures (ap not c.if-not-is_signal.false) in
-    let low = signal_low c.args.panel.now c.args.signal there in
-    let high = signal_high c.args.panel.now c.args.signal there in
-    (omega (arith, c.requires.signals_high), c.requires.processors_low c.args.signal low high)
+    (signal_low c.args.readable.now.panel.now c.args.signal there, signal_high c.args.readable.now.panel.now c.args.signal there)
 
 pub returns : goal.returns
 returns c =
     λ program.
     tells _ _ _ _ _
-    (read_done c.args.panel.now program c.args.memory.now (head_of c.args.self c.args.panel.now) c.args.signal (passes _ _ c.is_signal.ensures (ap not c.if-not-is_signal.false)))
-    (ap (λ (x : ℕ). value x) c.value_of-value.ensures.0) refl refl (sym (hands_own _ c.told-panel))
+    (read_done c.args.readable.now.panel.now program c.args.readable.now.memory.now (head_of c.args.self c.args.readable.now.panel.now) c.args.signal (passes _ _ c.is_signal.ensures (ap not c.if-not-is_signal.false)))
+    (ap (λ (x : ℕ). value x) c.value_of-value.ensures.0) refl refl (sym (hands_own _ c.args.readable.now.panel_size))

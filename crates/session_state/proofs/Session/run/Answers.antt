@@ -16,30 +16,26 @@ use Rattle.session_state.proofs.Session.run.Goals as goal
 
 pub returns-then-from-cycles : goal.returns-then-from-cycles
 returns-then-from-cycles c =
-    let h = head_of c.args.self c.args.panel.now in
+    let h = head_of c.args.self c.args.machine.now.panel.now in
     let l : 65535 < h.finished + c.args.cycles = omega (arith, c.if-from-cycles.true) in
     record {
-      tells = rw c.refused.ensures (tells _ _ _ _ _ (run_refused c.args.panel.now c.args.program.now c.args.memory.now h c.args.cycles l) refl refl refl (sym (hands_own c.args.panel.now c.requires.tables.panel_size)));
-      memory_after = memory_kept c.args.panel.now c.args.program.now c.args.memory.now h c.args.cycles c.requires.memory_bytes.size l;
+      tells = rw c.refused.ensures (tells _ _ _ _ _ (run_refused c.args.machine.now.panel.now c.args.machine.now.program.now c.args.memory.now h c.args.cycles l) refl refl refl (sym (hands_own c.args.machine.now.panel.now c.args.machine.now.in_range.panel_size)));
+      memory_after = memory_kept c.args.machine.now.panel.now c.args.machine.now.program.now c.args.memory.now h c.args.cycles c.requires.memory_bytes.size l;
     }
-
-pub run-ran-requires-clause-watching : goal.run-ran-requires-clause-watching
-run-ran-requires-clause-watching c = rw c.new-machine.ensures.0 c.requires.watching
 
 pub overflow_add-result : goal.overflow_add-result
 overflow_add-result c =
-    let most = run_most c.args.panel.now c.args.program.now (watch_of c.args.self.watch) (memory_of c.args.memory.now) c.args.cycles in
-    let counted = rw (c.new-machine.ensures.0, c.new-machine.ensures.1) at c.run-ran.ensures.0 in
-    omega (arith, counted, most, c.if-from-cycles.false)
+    let most = run_most c.args.machine.now.panel.now c.args.machine.now.program.now (watch_of c.args.self.watch) (memory_of c.args.memory.now) c.args.cycles in
+    omega (arith, c.run-ran.ensures.0, most, c.if-from-cycles.false)
 
 pub returns : goal.returns
 returns c =
-    let h = head_of c.args.self c.args.panel.now in
+    let h = head_of c.args.self c.args.machine.now.panel.now in
     let l : h.finished + c.args.cycles ≤ 65535 = omega (arith, c.if-from-cycles.false) in
-    let done = rw (c.new-machine.ensures.0, c.new-machine.ensures.1) at c.run-ran.ensures in
-    let e = run_done c.args.panel.now c.args.program.now c.args.memory.now h.finished h.watch c.args.cycles l in
+    let done = c.run-ran.ensures in
+    let e = run_done c.args.machine.now.panel.now c.args.machine.now.program.now c.args.memory.now h.finished h.watch c.args.cycles l in
     record {
-      tells = tells _ _ _ _ _ e (ap (λ (x : ℕ). ran x c.run-ran.result.stopped) done.0 ∙ ap (ran (run_in c.args.panel.now c.args.program.now h.watch c.args.cycles (memory_of c.args.memory.now)).count) done.1)
-          (ap (λ (x : ℕ). h.finished + x) done.0) refl (sym (hands_own c.args.panel.now c.requires.tables.panel_size));
-      memory_after = done.2 ∙ ap (λ (o : Outcome Memory). with_memory (processors_in c.args.panel.now) (slots_in c.args.panel.now) o.state c.args.memory.now) (sym e);
+      tells = tells _ _ _ _ _ e (ap (λ (x : ℕ). ran x c.run-ran.result.stopped) done.0 ∙ ap (ran (run_in c.args.machine.now.panel.now c.args.machine.now.program.now h.watch c.args.cycles (memory_of c.args.memory.now)).count) done.1)
+          (ap (λ (x : ℕ). h.finished + x) done.0) refl (sym (hands_own c.args.machine.now.panel.now c.args.machine.now.in_range.panel_size));
+      memory_after = done.2 ∙ ap (λ (o : Outcome Memory). with_memory (processors_in c.args.machine.now.panel.now) (slots_in c.args.machine.now.panel.now) o.state c.args.memory.now) (sym e);
     }

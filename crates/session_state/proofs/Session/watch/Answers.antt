@@ -17,8 +17,8 @@ pub returns-then-mask-gt15 : goal.returns-then-mask-gt15
 returns-then-mask-gt15 c =
     λ program memory. rw c.refused-then-mask-gt15.ensures (watch_42 c.args.panel.now program memory (head_of c.args.self c.args.panel.now) c.args.signal c.args.mask _ c.is_signal.ensures (ap not c.if-not-is_signal.false) c.if-mask-gt15.true _ refl refl refl (sym (hands_own _ c.told-panel)))
 
-pub overflow_cast-watched : goal.overflow_cast-watched
-overflow_cast-watched c =
+pub overflow_cast-result : goal.overflow_cast-result
+overflow_cast-result c =
     let l = signal_high c.args.panel.now c.args.signal (passes _ _ c.is_signal.ensures (ap not c.if-not-is_signal.false)) in
     omega arith
 

@@ -1,0 +1,118 @@
+// The gate whose operands a line of MOD has, and what each operand reads (01, Refusals, 23).
+
+ghost use Rattle.std.specs.Prelude.{◌≡◌, ◌≤◌};
+ghost use Rattle.model.specs.Module.{local_earlier, local_present, switch_earlier, switch_present};
+ghost use Rattle.model.specs.ModuleFile.{module_of};
+ghost use Rattle.instruction.specs.Operand.{part_of, location_of};
+ghost use Rattle.netlist.specs.Kind.{code_of};
+ghost use Rattle.file_mod_table.specs.Line.{Within};
+ghost use Rattle.file_mod_sources.specs.Mirror.{sent_from, wanted_part, gate_reads};
+
+use file_mod_lines::Place;
+use file_mod_table::ModTable;
+use instruction::Operand;
+use netlist::Kind;
+
+// "Switch: look at the send into k": the signal of "a send of part 0", or none where the send is none or of another part.
+fn sent_earlier(table: &ModTable, into: Place) -> Option<u16>
+    requires { Within table.now.shape into.processor into.slot.0 }
+    ensures { result ≡ sent_from (module_of table.now.modfile.now) into.processor into.slot.0 local_earlier }
+{
+    let processor = table.sender_at(into)?;
+    let from = into.of_processor(processor);
+    match table.send_at(from) {
+        Operand::LocalEarlier(k) => table.signal_at(from.at(k)),
+        _ => None,
+    }
+}
+
+// The same of "a send of part 1". The two are apart: a case of `Operand` is no value to be given, and what both begin with would answer a
+// place with an operand, of which its contract had to tell all that the two contracts tell here.
+fn sent_present(table: &ModTable, into: Place) -> Option<u16>
+    requires { Within table.now.shape into.processor into.slot.0 }
+    ensures { result ≡ sent_from (module_of table.now.modfile.now) into.processor into.slot.0 local_present }
+{
+    let processor = table.sender_at(into)?;
+    let from = into.of_processor(processor);
+    match table.send_at(from) {
+        Operand::LocalPresent(k) => table.signal_at(from.at(k)),
+        _ => None,
+    }
+}
+
+// The gate of an operand: its place, its kind, and the source that the operand has to read.
+#[derive(Clone, Copy)]
+pub struct Gate {
+    pub place: Place,
+    pub kind: Kind,
+    pub source: u16,
+    pub ghost some: { 1 ≤ source },
+}
+
+impl Gate {
+    // "Local 0: the signal placed at k is the source, gate unit-delay."
+    #[tactic(auto, using(logic::proofs::Judged::connected), unfolding(model::specs::Module::reads))]
+    fn local_earlier_right(self, table: &ModTable, k: u8) -> bool
+        requires { Within table.now.shape self.place.processor k }
+        ensures { result ≡ gate_reads table.now.modfile.now self.place self.kind self.source local_earlier k }
+    {
+        self.kind == Kind::UnitDelay && table.signal_at(self.place.at(k)) == Some(self.source)
+    }
+
+    // "Local 1: k < i, the signal at k is the source, gate rank-order."
+    #[tactic(auto, using(logic::proofs::Judged::connected), unfolding(model::specs::Module::reads))]
+    fn local_present_right(self, table: &ModTable, k: u8) -> bool
+        requires { Within table.now.shape self.place.processor k }
+        ensures { result ≡ gate_reads table.now.modfile.now self.place self.kind self.source local_present k }
+    {
+        let read = self.place.at(k);
+        self.kind == Kind::RankOrder
+            && read.slot < self.place.slot
+            && table.signal_at(read) == Some(self.source)
+    }
+
+    // "Part 2 wants a send of part 1, gate unit-delay."
+    #[tactic(auto, using(logic::proofs::Judged::connected), unfolding(model::specs::Module::reads, crate::specs::Mirror::sent_from))]
+    fn switch_earlier_right(self, table: &ModTable, k: u8) -> bool
+        requires { Within table.now.shape self.place.processor k }
+        ensures { result ≡ gate_reads table.now.modfile.now self.place self.kind self.source switch_earlier k }
+    {
+        self.kind == Kind::UnitDelay && sent_present(table, self.place.at(k)) == Some(self.source)
+    }
+
+    // The send that part 3 wants: "of part 0 for a unit-delay gate or part 1 for a rank-order gate".
+    fn wanted_sent(self, table: &ModTable, into: Place) -> Option<u16>
+        requires { Within table.now.shape into.processor into.slot.0 }
+        ensures { result ≡ sent_from (module_of table.now.modfile.now) into.processor into.slot.0 (wanted_part (code_of self.kind)) }
+    {
+        match self.kind {
+            Kind::UnitDelay => sent_earlier(table, into),
+            Kind::RankOrder | Kind::Input => sent_present(table, into),
+        }
+    }
+
+    // "Part 3 wants k < i", and that send.
+    #[tactic(auto, using(logic::proofs::Judged::connected), unfolding(model::specs::Module::reads, crate::specs::Mirror::sent_from))]
+    fn switch_present_right(self, table: &ModTable, k: u8) -> bool
+        requires { Within table.now.shape self.place.processor k }
+        ensures { result ≡ gate_reads table.now.modfile.now self.place self.kind self.source switch_present k }
+    {
+        let into = self.place.at(k);
+        into.slot < self.place.slot && self.wanted_sent(table, into) == Some(self.source)
+    }
+
+    // The operand reads the source.
+    #[tactic(auto, using(logic::proofs::Judged::connected), unfolding(model::specs::Module::reads))]
+    pub fn reads(self, table: &ModTable, a: Operand) -> bool
+        requires { Within table.now.shape self.place.processor (location_of a) }
+        ensures { result ≡ gate_reads table.now.modfile.now self.place self.kind self.source (part_of a) (location_of a) }
+    {
+        match a {
+            Operand::LocalEarlier(k) => self.local_earlier_right(table, k),
+            Operand::LocalPresent(k) => self.local_present_right(table, k),
+            Operand::SwitchEarlier(k) => self.switch_earlier_right(table, k),
+            Operand::SwitchPresent(k) => self.switch_present_right(table, k),
+            Operand::None(_) => false,
+        }
+    }
+}
