@@ -6,7 +6,7 @@ use mathlib.Core.List.{List}
 use mathlib.Core.Logic.{◌⊎◌, ⊎_elim, ⊎_map}
 use native.Mathlib.Omega.{arith}
 use lib.Dec.{eqb}
-use borrow.Author.Tests.{eq-eqb, ne_eqb, lt-ltb, le-ltb}
+use borrow.Author.Tests.{eq-eqb, lt-ltb, le-ltb}
 use Rattle.std.specs.Prelude.{Option, Some, None}
 use Rattle.std.specs.Prelude.{if◌then◌else◌}
 use Rattle.std.specs.Option.{is_some}
@@ -24,7 +24,7 @@ use Rattle.file_mod_lines.specs.declared.Shape.{Shape}
 use Rattle.file_mod_table.specs.Line.{LinesLaid, Within}
 use Rattle.file_mod_table.proofs.Slots.{line_within, slot_laid}
 use Rattle.file_mod_table.proofs.Senders.{From}
-use Rattle.file_mod_sources.specs.Mirror.{sent_from}
+use Rattle.file_mod_sources.specs.Mirror.{half_part, sent_from}
 
 -- slot i of processor p sends what a names, which is of "a send 0, 1 or 9"
 pub record Sends (m : Module) (p i : ℕ) (a : Operand) : Type 0 where
@@ -100,27 +100,33 @@ module _ (m : Module) (p i : ℕ) where
       unfolding sent_from ◌and◌
       by_sender = ap sent_by (sym from.same) ∙ (rw from.some refl)
 
-      pub sent_some : (a : Operand) → Sends m q i a → part_of a ≡ part → numbered (m.signal q (location_of a)) ≡ sent_from m p i part
+      pub sent_some : (a : Operand) → Sends m q i a → eqb (part_of a) part ≡ true → numbered (m.signal q (location_of a)) ≡ sent_from m p i part
       sent_some a s e =
-          let here : eqb (m.send_part q i) part ≡ true = eq-eqb _ _ (s.part ∙ e) in
+          let here : eqb (m.send_part q i) part ≡ true = ap (λ (x : ℕ). eqb x part) s.part ∙ e in
           ap (λ (k : ℕ). numbered (m.signal q k)) (sym s.location) ∙ (rw here at by_sender)
 
-      pub sent_apart : (a : Operand) → Sends m q i a → (part_of a ≡ part → ⊥) → None ≡ sent_from m p i part
-      sent_apart a s d =
-          let apart : eqb (m.send_part q i) part ≡ false = ne_eqb _ _ (λ e. d (sym s.part ∙ e)) in
+      pub sent_apart : (a : Operand) → Sends m q i a → eqb (part_of a) part ≡ false → None ≡ sent_from m p i part
+      sent_apart a s e =
+          let apart : eqb (m.send_part q i) part ≡ false = ap (λ (x : ℕ). eqb x part) s.part ∙ e in
           rw apart at by_sender
 
--- an operand that is not of a local half
-pub not_earlier : (a : Operand) → ((k : ℕ) → a ≡ LocalEarlier k → ⊥) → part_of a ≡ local_earlier → ⊥
-not_earlier (LocalEarlier k) d e = d k refl
-not_earlier (LocalPresent k) d e = omega arith
-not_earlier (SwitchEarlier k) d e = omega arith
-not_earlier (SwitchPresent k) d e = omega arith
-not_earlier (operand.None k) d e = omega arith
+-- whether the half asked for is that of the operand
+pub earlier_asked : (present : Bool) → not present ≡ eqb local_earlier (half_part present)
+earlier_asked true = refl
+earlier_asked false = refl
 
-pub not_present : (a : Operand) → ((k : ℕ) → a ≡ LocalPresent k → ⊥) → part_of a ≡ local_present → ⊥
-not_present (LocalEarlier k) d e = omega arith
-not_present (LocalPresent k) d e = d k refl
-not_present (SwitchEarlier k) d e = omega arith
-not_present (SwitchPresent k) d e = omega arith
-not_present (operand.None k) d e = omega arith
+pub present_asked : (present : Bool) → present ≡ eqb local_present (half_part present)
+present_asked true = refl
+present_asked false = refl
+
+-- an operand of no local half
+pub neither_asked : (a : Operand) (present : Bool) → ((k : ℕ) → a ≡ LocalEarlier k → ⊥) → ((k : ℕ) → a ≡ LocalPresent k → ⊥)
+    → false ≡ eqb (part_of a) (half_part present)
+neither_asked (LocalEarlier k) present d e = absurd (d k refl)
+neither_asked (LocalPresent k) present d e = absurd (e k refl)
+neither_asked (SwitchEarlier k) true d e = refl
+neither_asked (SwitchEarlier k) false d e = refl
+neither_asked (SwitchPresent k) true d e = refl
+neither_asked (SwitchPresent k) false d e = refl
+neither_asked (operand.None k) true d e = refl
+neither_asked (operand.None k) false d e = refl

@@ -1,10 +1,9 @@
 -- How the code judges what an operand reads, part by part: it mirrors private functions and need not be believed. `operand_right` is what
 -- a caller reads.
-use Rattle.std.specs.Prelude.{ℕ, Bool, List, Option, None, eqb}
+use Rattle.std.specs.Prelude.{ℕ, Bool, true, false, List, Option, None, eqb}
 use Rattle.logic.specs.Test.{◌and◌}
 use Rattle.logic.specs.Numbered.{numbered}
 use Rattle.std.specs.Prelude.{if◌then◌else◌}
-use Rattle.model.specs.Network.{unit_delay}
 use Rattle.model.specs.Module.{Module, local_earlier, local_present, sent_part, sent_signal, received, reads}
 use Rattle.model.specs.ModuleFile.{module_of}
 use Rattle.file_mod_lines.specs.declared.Place.{Place}
@@ -15,9 +14,10 @@ use Rattle.netlist.specs.Kind.{code_of}
 unfoldable pub sent_from : Module → ℕ → ℕ → ℕ → Option ℕ
 sent_from m p k part = if received m p k and eqb (sent_part m p k) part then numbered (sent_signal m p k) else None
 
--- the part of the send that part 3 wants: "a send of part 0 for a unit-delay gate or part 1 for a rank-order gate"
-abbrev pub wanted_part : ℕ → ℕ
-wanted_part kind = if eqb kind unit_delay then local_earlier else local_present
+-- the part of a send from the present half, or from the earlier one
+abbrev pub half_part : Bool → ℕ
+half_part true = local_present
+half_part false = local_earlier
 
 -- an operand that names a part and location k reads the source of the gate of that kind at a place
 abbrev pub gate_reads : List ℕ → Place → Kind → ℕ → ℕ → ℕ → Bool

@@ -1,43 +1,40 @@
 // The gate whose operands a line of MOD has, and what each operand reads (01, Refusals, 23).
 
-ghost use Rattle.std.specs.Prelude.{◌≡◌, ◌≤◌};
+ghost use Rattle.std.specs.Prelude.{◌≡◌, ◌≤◌, eqb};
 ghost use Rattle.model.specs.Module.{local_earlier, local_present, switch_earlier, switch_present};
 ghost use Rattle.model.specs.ModuleFile.{module_of};
 ghost use Rattle.instruction.specs.Operand.{part_of, location_of};
-ghost use Rattle.netlist.specs.Kind.{code_of};
 ghost use Rattle.file_mod_table.specs.Line.{Within};
-ghost use Rattle.file_mod_sources.specs.Mirror.{sent_from, wanted_part, gate_reads};
+ghost use Rattle.file_mod_sources.specs.Mirror.{half_part, sent_from, gate_reads};
 
 use file_mod_lines::Place;
 use file_mod_table::ModTable;
 use instruction::Operand;
 use netlist::Kind;
 
-// "Switch: look at the send into k": the signal of "a send of part 0", or none where the send is none or of another part.
-fn sent_earlier(table: &ModTable, into: Place) -> Option<u16>
-    requires { Within table.now.shape into.processor into.slot.0 }
-    ensures { result ≡ sent_from (module_of table.now.modfile.now) into.processor into.slot.0 local_earlier }
+// What is sent is of the present half, "a send of part 1", where that is asked for, or of the earlier half, "a send of part 0".
+fn is_of_half(send: Operand, present: bool) -> bool
+    ensures { result ≡ eqb (part_of send) (half_part present) }
 {
-    let processor = table.sender_at(into)?;
-    let from = into.of_processor(processor);
-    match table.send_at(from) {
-        Operand::LocalEarlier(k) => table.signal_at(from.at(k)),
-        _ => None,
+    match send {
+        Operand::LocalEarlier(_) => !present,
+        Operand::LocalPresent(_) => present,
+        _ => false,
     }
 }
 
-// The same of "a send of part 1". The two are apart: a case of `Operand` is no value to be given, and what both begin with would answer a
-// place with an operand, of which its contract had to tell all that the two contracts tell here.
-fn sent_present(table: &ModTable, into: Place) -> Option<u16>
+// "Switch: look at the send into k": the signal that is sent, where it is of the half that is asked for.
+fn sent_from(table: &ModTable, into: Place, present: bool) -> Option<u16>
     requires { Within table.now.shape into.processor into.slot.0 }
-    ensures { result ≡ sent_from (module_of table.now.modfile.now) into.processor into.slot.0 local_present }
+    ensures { result ≡ sent_from (module_of table.now.modfile.now) into.processor into.slot.0 (half_part present) }
 {
     let processor = table.sender_at(into)?;
     let from = into.of_processor(processor);
-    match table.send_at(from) {
-        Operand::LocalPresent(k) => table.signal_at(from.at(k)),
-        _ => None,
+    let send = table.send_at(from);
+    if !is_of_half(send, present) {
+        return None;
     }
+    table.signal_at(from.at(send.location()))
 }
 
 // The gate of an operand: its place, its kind, and the source that the operand has to read.
@@ -77,28 +74,19 @@ impl Gate {
         requires { Within table.now.shape self.place.processor k }
         ensures { result ≡ gate_reads table.now.modfile.now self.place self.kind self.source switch_earlier k }
     {
-        self.kind == Kind::UnitDelay && sent_present(table, self.place.at(k)) == Some(self.source)
+        self.kind == Kind::UnitDelay
+            && sent_from(table, self.place.at(k), true) == Some(self.source)
     }
 
-    // The send that part 3 wants: "of part 0 for a unit-delay gate or part 1 for a rank-order gate".
-    fn wanted_sent(self, table: &ModTable, into: Place) -> Option<u16>
-        requires { Within table.now.shape into.processor into.slot.0 }
-        ensures { result ≡ sent_from (module_of table.now.modfile.now) into.processor into.slot.0 (wanted_part (code_of self.kind)) }
-    {
-        match self.kind {
-            Kind::UnitDelay => sent_earlier(table, into),
-            Kind::RankOrder | Kind::Input => sent_present(table, into),
-        }
-    }
-
-    // "Part 3 wants k < i", and that send.
+    // "Part 3 wants k < i, and a send of part 0 for a unit-delay gate or part 1 for a rank-order gate."
     #[tactic(auto, using(logic::proofs::Judged::connected), unfolding(model::specs::Module::reads, crate::specs::Mirror::sent_from))]
     fn switch_present_right(self, table: &ModTable, k: u8) -> bool
         requires { Within table.now.shape self.place.processor k }
         ensures { result ≡ gate_reads table.now.modfile.now self.place self.kind self.source switch_present k }
     {
         let into = self.place.at(k);
-        into.slot < self.place.slot && self.wanted_sent(table, into) == Some(self.source)
+        into.slot < self.place.slot
+            && sent_from(table, into, self.kind != Kind::UnitDelay) == Some(self.source)
     }
 
     // The operand reads the source.
