@@ -29,8 +29,7 @@ pub fn load(files: &FileBytes, panel: &mut Panel, program: &mut Program, memory:
     let net = Netlist::new(files.net);
     let stim = Stimulus { bytes: files.stim };
     let table = buffers_load_files::table_of(files.modfile);
-    let mut values = [0; 4097];
-    buffers_load_values::load_values(&net, stim, &mut values);
+    let values = buffers_load_values::load_values(&net, stim);
     buffers_load_panel::load_panel(&net, &table, &values, panel);
     buffers_load_program::load_program(&table, program);
     buffers_load_memory::load_memory(&table, &values, memory);

@@ -17,15 +17,13 @@ pub fn table_of(modfile: &[u8]) -> ModTable
     ensures { result.modfile.now ≡ modfile.now }
 {
     let line = Line::<14>::new(modfile, 0);
-    let shape = Shape {
-        processors: line.number(0),
-        slots: line.number(1),
-    };
+    let shape = Shape::of_line(&line);
     ModTable::new(modfile, shape)
 }
 
-// Every byte of a buffer, by a function of its index. A loop that writes in place: `*bytes = array::from_fn(byte)` makes the array first, up
-// to 53,248 bytes more on the stack, whose size is counted and fixed (docs/PANEL.md).
+// Every byte of a buffer, by a function of its index. A loop that writes in place: `*bytes = array::from_fn(byte)` makes the array first,
+// up to 53,248 bytes more on the stack, whose size is counted and fixed (docs/PANEL.md). By index: of what an adapter of `iter_mut` wrote,
+// a proof knows nothing.
 pub fn fill_by<F: Fn(usize) -> u8>(bytes: &mut [u8], byte: F)
     requires { (a : ℕ) → a < length bytes.old → F.pre byte a }
     ensures { (f : ℕ → ℕ) → ((a x : ℕ) → a < length bytes.old → F.post byte a x → x ≡ f a) → bytes.new ≡ listed (length bytes.old) f }

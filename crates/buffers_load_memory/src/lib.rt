@@ -11,15 +11,12 @@ ghost use Rattle.buffers_load_files.specs.Loaded.{opening_with};
 ghost use Rattle.buffers_load_files.specs.Checked.{value_in};
 ghost use Rattle.buffers_load_memory.specs.Bytes.{sent_value, opening_byte};
 
-use buffers_memory::{Memory, PART_STRIDE, PROCESSOR_STRIDE, SWITCH_PRESENT};
+use buffers_memory::{
+    LOCAL_EARLIER, Memory, PART_STRIDE, PROCESSOR_STRIDE, SWITCH_EARLIER, SWITCH_PRESENT,
+};
 use clock::Slot;
 use file_mod_lines::Place;
 use file_mod_table::ModTable;
-
-// The parts of a processor's memory are numbered by their places in it, as the present ones beside them in buffers_memory.
-const LOCAL_EARLIER: usize = 0;
-
-const SWITCH_EARLIER: usize = 2;
 
 // What the opening memory is made of: MOD, and the signals' time 0 values.
 #[derive(Clone, Copy)]
@@ -45,12 +42,10 @@ impl<'a> Opening<'a> {
         requires { Within self.now.table.now.shape place.processor place.slot.0 }
         ensures { result ≡ sent_value (module_of self.now.table.now.modfile.now) (value_in self.now.values.now) place.processor place.slot.0 }
     {
-        let Some(processor) = self.table.sender_at(place) else {
+        let Some((from, send)) = self.table.received_at(place) else {
             return 0;
         };
-        let from = place.of_processor(processor);
-        let location = self.table.send_at(from).location();
-        self.local_value(from.at(location))
+        self.local_value(from.at(send.location()))
     }
 
     // Byte a of the memory: "the earlier local half holds time 0", a switch location in both halves what is sent into it, all else is 0.

@@ -2,7 +2,7 @@
 
 #![tactic(auto)]
 
-ghost use Rattle.std.specs.Prelude.{◌≡◌, ℕ, ◌<◌, ◌≤◌, get_or};
+ghost use Rattle.std.specs.Prelude.{◌≡◌, ◌<◌, ◌≤◌, get_or};
 ghost use Rattle.logic.specs.Listed.{listed};
 ghost use Rattle.model.specs.Netlist.{net_size};
 ghost use Rattle.buffers_tables.specs.Panel.{panel_length, panel_stride, head_bytes, signal_of, column_of};
@@ -16,13 +16,14 @@ use file_mod_table::ModTable;
 use netlist::Netlist;
 
 // Which line of MOD has each signal, counted from 0 after line 1. Index 0 is for the empty slots.
-fn load_places(table: &ModTable, places: &mut [u16; 4097])
-    requires { (s : ℕ) → s ≤ 4096 → get_or places.old s 0 ≡ 0 }
-    ensures { places.new ≡ listed 4097 (place_of table.now.modfile.now) }
+fn places_of(table: &ModTable) -> [u16; 4097]
+    ensures { result ≡ listed 4097 (place_of table.now.modfile.now) }
 {
+    let mut places = [0; 4097];
     for k in 0..table.shape.lines() {
         places[table.signal_of(k)] = k;
     }
+    places
 }
 
 // One of the session's bytes: N, P, C, no cycle finished, watch signal 1 with mask 0.
@@ -39,7 +40,7 @@ fn head_byte(signals: u16, shape: Shape, column: usize) -> u8
 }
 
 // What the panel is made of: NET, MOD, the signals' lines, and their time 0 values. The lines stand in an array that loading makes, which
-// has a lifetime of its own.
+// has a lifetime of its own. N is read once, and not from line 1 for each byte.
 #[derive(Clone, Copy)]
 struct Opening<'a, 'p> {
     net: &'a Netlist<'a>,
@@ -88,8 +89,7 @@ impl<'a, 'p> Opening<'a, 'p> {
 pub fn load_panel(net: &Netlist, table: &ModTable, values: &[u8; 4097], panel: &mut Panel)
     ensures { panel.new ≡ panel_with net.now.net.now table.now.modfile.now (value_in values.now) }
 {
-    let mut places = [0; 4097];
-    load_places(table, &mut places);
+    let places = places_of(table);
     let opening = Opening {
         net,
         table,

@@ -19,23 +19,25 @@ use netlist::Netlist;
 fn undefined_at(signals: usize, s: usize) -> u8
     ensures { result ≡ undefined_to signals s }
 {
-    if 1 <= s && s <= signals { 2 } else { 0 }
+    if (1..=signals).contains(&s) { 2 } else { 0 }
 }
 
 // "At t = 0 every signal has its given value, or U". The lines of time 0 stand first, since times rise.
+// By `fill_by`, as the buffers are filled: `from_fn` would make the array a second time on the stack, whose size is counted.
 // By `as`, in this file, where the bound is proved: no `From` has this conversion, and `TryFrom` has an error that cannot happen.
-pub fn load_values(net: &Netlist, stim: Stimulus, values: &mut [u8; 4097])
+pub fn load_values(net: &Netlist, stim: Stimulus) -> [u8; 4097]
     requires { stim_check (network net.now.net.now) stim.bytes.now ≡ pass }
-    ensures { values.new ≡ listed 4097 (time_zero_from net.now.net.now stim.entry.bytes.now) }
+    ensures { result ≡ listed 4097 (time_zero_from net.now.net.now stim.entry.bytes.now) }
 {
     let signals = usize::from(net.signals());
-    buffers_load_files::fill_by(values, |s| undefined_at(signals, s));
+    let mut values = [0; 4097];
+    buffers_load_files::fill_by(&mut values, |s| undefined_at(signals, s));
     let mut cursor = Cursor {
         stimulus: stim,
         line: 0,
     };
-    while let Some((line, next)) = cursor.next_of(Cycle(0)) {
+    while let Some(line) = cursor.next_of(Cycle(0)) {
         values[usize::from(line.signal)] = line.value as u8;
-        cursor = next;
     }
+    values
 }

@@ -6,7 +6,7 @@ ghost use Rattle.std.specs.Prelude.{◌≡◌, ◌*◌, ◌<◌, ◌≤◌, set}
 ghost use Rattle.gates.specs.Value.{Code};
 ghost use Rattle.model.specs.Machine.{fetch as fetched, alternate as alternated};
 ghost use Rattle.instruction.specs.Operand.{part_of, location_of};
-ghost use Rattle.buffers_memory.specs.Memory.{part_stride, blank, place, memory_of, fetched_part, written, here, below, with_memory, MemoryBytes};
+ghost use Rattle.buffers_memory.specs.Memory.{memory_length, part_stride, blank, place, memory_of, fetched_part, written, here, below, with_memory, MemoryBytes};
 
 use instruction::Operand;
 
@@ -26,8 +26,10 @@ pub const MEMORY_PARTS: usize = 80;
 // The fifth part, which is none.
 pub const BLANK: usize = 4;
 
-// The parts of the present half, which a slot stores into.
-pub const LOCAL_PRESENT: usize = 1;
+// The parts that open with a value, by their places in a processor's memory.
+pub const LOCAL_EARLIER: usize = 0;
+
+pub const SWITCH_EARLIER: usize = 2;
 
 pub const SWITCH_PRESENT: usize = 3;
 
@@ -44,23 +46,31 @@ fn part_base(a: Operand) -> usize
     }
 }
 
-// The value at the location that an operand names. That every byte is a value is asked of the memory and not held by a type: the bytes
-// are lent by C, and written between two calls.
+// The byte of the location that an operand names.
+fn place_of(processor: usize, a: Operand) -> usize
+    requires { processor < 16 }
+    ensures { (result ≡ place processor (fetched_part a) (location_of a)) × (result < memory_length) }
+{
+    PROCESSOR_STRIDE * processor + part_base(a) + usize::from(a.location())
+}
+
+// The value at the location that an operand names. That every byte is a value is asked of the memory and not held by a type: a
+// run writes it between two fetches, and a value that holds it would be made for each.
 #[tactic(auto, using(crate::proofs::Fetched::fetched_there))]
 pub fn fetch(memory: &Memory, processor: usize, a: Operand) -> u8
     requires memory_bytes { MemoryBytes memory.now }
     requires processor_bound { processor < 16 }
     ensures { (result ≡ fetched (memory_of memory.now) processor (part_of a) (location_of a)) × Code result }
 {
-    memory[PROCESSOR_STRIDE * processor + part_base(a) + usize::from(a.location())]
+    memory[place_of(processor, a)]
 }
 
-// A value stored at a location of a part.
-pub fn store(memory: &mut Memory, processor: usize, part: usize, location: usize, value: u8)
-    requires { (processor < 16) × (part < blank) × (location < 256) }
-    ensures { memory.new ≡ set memory.old (place processor part location) value }
+// A value stored at the location that an operand names, which is one of the four parts.
+pub fn store(memory: &mut Memory, processor: usize, a: Operand, value: u8)
+    requires { (processor < 16) × (fetched_part a < blank) }
+    ensures { memory.new ≡ set memory.old (place processor (fetched_part a) (location_of a)) value }
 {
-    memory[PROCESSOR_STRIDE * processor + PART_STRIDE * part + location] = value;
+    memory[place_of(processor, a)] = value;
 }
 
 // "Halves alternate": the parts 0 and 1, and 2 and 3, change places in one location.

@@ -10,7 +10,8 @@ ghost use Rattle.buffers_range_panel.specs.Ranges.{head_ranged, codes_ranged, si
 
 use buffers_tables::{CODES, PANEL_STRIDE, Panel};
 
-// A number from 1 up to a limit.
+// A number from 1 up to a limit. A function, since with `contains` at each of the five tests the proofs of the head and of a signal do not
+// close.
 #[tactic(auto, using(logic::proofs::Judged::connected))]
 fn counted(x: u16, most: u16) -> bool
     ensures { result ≡ leb 1 x and leb x most }
@@ -24,15 +25,16 @@ fn head_right(panel: &Panel) -> bool
     ensures { result ≡ head_ranged panel.now }
 {
     let signals = buffers_tables::signals(panel);
+    let watch = buffers_tables::watched(panel);
     counted(signals, 4096)
         && counted(u16::from(buffers_tables::processors(panel)), 16)
         && counted(buffers_tables::slots(panel), 256)
-        && counted(buffers_tables::watched(panel), signals)
-        && buffers_tables::mask(panel) <= 15
+        && counted(watch.signal, signals)
+        && watch.mask <= 15
 }
 
-// The codes of a signal: zeros of an input, codes that are supplied of a gate. The kind is compared as the byte that the panel has, which
-// nothing has judged yet.
+// The codes of a signal: zeros of an input, codes that are supplied of a gate. The kind is judged and compared as a number, as in the
+// definitions: `Kind` is of the files, and one would be made for two tests and thrown away.
 #[tactic(auto, using(logic::proofs::Judged::connected), unfolding(crate::specs::Ranges::codes_ranged))]
 fn codes_right(panel: &Panel, signal: usize) -> bool
     requires { signal ≤ 4096 }
@@ -60,8 +62,7 @@ fn signal_right(panel: &Panel, signal: usize) -> bool
         && u16::from(buffers_tables::place_slot(panel, signal)) < buffers_tables::slots(panel)
 }
 
-// Signals 1 to N, and zeros above N. They are counted from 0, as `panel_ranged` counts them: of what `1..=signals` gives the library has
-// no law, and this would be the one place that needs it.
+// Signals 1 to N, and zeros above N. They are counted from 0, as `panel_ranged` counts them.
 #[tactic(auto, using(logic::proofs::Judged::connected))]
 fn signals_right(panel: &Panel, signals: usize) -> bool
     requires { signals ≤ 4096 }

@@ -41,6 +41,8 @@ struct Judged<'a> {
 }
 
 impl<'a> Judged<'a> {
+    // The bytes are named first in each method that reads them: a proof takes their length from the type of a variable, and not of a field.
+
     // The faults of the pair at a place: a part above `most`, a location not below C, less one where it is "Part 9 with location 0".
     // Parts follow no pattern that a processor could predict, so faults are counted, not branched on.
     #[tactic(auto, using(crate::proofs::Faults::none_fault, crate::proofs::Faults::pair_fault))]

@@ -9,7 +9,7 @@ ghost use Rattle.buffers_tables.specs.Stores.{with_finished, with_watch, with_ha
 ghost use Rattle.buffers_tables.specs.Program.{program_length, line_stride, line_in, signal_at};
 ghost use Rattle.buffers_tables.specs.Decoded.{instruction_in};
 
-use clock::Slot;
+use clock::{Cycle, Slot};
 use gates::Gate;
 use instruction::{Instruction, Operand};
 
@@ -18,6 +18,7 @@ pub const PANEL_BYTES: usize = 40970;
 
 pub const PROGRAM_BYTES: usize = 53248;
 
+// Aliases, and functions over them: C lends the bytes, and a struct over them would be made at each call, to call one reader.
 pub type Panel = [u8; PANEL_BYTES];
 
 pub type Program = [u8; PROGRAM_BYTES];
@@ -70,6 +71,13 @@ pub const SEND: usize = 10;
 
 pub const SENDER: usize = 12;
 
+// "the one watch": its signal, and the mask of the values that it watches.
+#[derive(Clone, Copy, Debug, PartialEq, Eq)]
+pub struct Watch {
+    pub signal: u16,
+    pub mask: u8,
+}
+
 // N: the signals of the network are 1 to N.
 pub fn signals(panel: &Panel) -> u16
     ensures { result ≡ signals_in panel.now }
@@ -92,24 +100,20 @@ pub fn slots(panel: &Panel) -> u16
 }
 
 // The cycles finished. That the low byte is below 256 lets the number be written back as it is.
-pub fn finished(panel: &Panel) -> u16
-    ensures { (result ≡ finished_in panel.now) × (get_or panel.now finished_place 0 < 256) }
+pub fn finished(panel: &Panel) -> Cycle
+    ensures { (result.0 ≡ finished_in panel.now) × (get_or panel.now finished_place 0 < 256) }
 {
-    words::word_at(panel, FINISHED)
+    Cycle(words::word_at(panel, FINISHED))
 }
 
-// The signal of the watch, likewise.
-pub fn watched(panel: &Panel) -> u16
-    ensures { (result ≡ watched_in panel.now) × (get_or panel.now watched_place 0 < 256) }
+// The watch. That the low byte of its signal is below 256 serves likewise.
+pub fn watched(panel: &Panel) -> Watch
+    ensures { (result.signal ≡ watched_in panel.now) × (result.mask ≡ mask_in panel.now) × (get_or panel.now watched_place 0 < 256) }
 {
-    words::word_at(panel, WATCHED)
-}
-
-// The mask of the watch.
-pub fn mask(panel: &Panel) -> u8
-    ensures { result ≡ mask_in panel.now }
-{
-    panel[MASK]
+    Watch {
+        signal: words::word_at(panel, WATCHED),
+        mask: panel[MASK],
+    }
 }
 
 // A reader asks that its signal, its processor and its slot are in range, as an index is below a length: a type of each bound would be
@@ -161,18 +165,18 @@ pub fn place_slot(panel: &Panel, signal: usize) -> u8
 }
 
 // The cycles finished, written.
-pub fn set_finished(panel: &mut Panel, number: u16)
-    ensures { panel.new ≡ with_finished number panel.old }
+pub fn set_finished(panel: &mut Panel, finished: Cycle)
+    ensures { panel.new ≡ with_finished finished.0 panel.old }
 {
-    words::store_word(panel, FINISHED, number);
+    words::store_word(panel, FINISHED, finished.0);
 }
 
-// The watch, written: its signal and its mask.
-pub fn set_watch(panel: &mut Panel, signal: u16, mask: u8)
-    ensures { panel.new ≡ with_watch signal mask panel.old }
+// The watch, written.
+pub fn set_watch(panel: &mut Panel, watch: Watch)
+    ensures { panel.new ≡ with_watch watch.signal watch.mask panel.old }
 {
-    words::store_word(panel, WATCHED, signal);
-    panel[MASK] = mask;
+    words::store_word(panel, WATCHED, watch.signal);
+    panel[MASK] = watch.mask;
 }
 
 // The value in hand of a signal, written.

@@ -1,22 +1,36 @@
--- Files that each check accepts are accepted.
+-- The answers of the three checks in the order of the files: the first that refuses answers for all, and the last where those before it
+-- accept.
 use Prim.Native.Nat.{ℕ}
 use mathlib.Core.Path.{◌≡◌}
 use mathlib.Core.List.{List}
-use Rattle.std.specs.Prelude.{Result, Ok}
-use Rattle.model.specs.Refusal.{pass}
+use Rattle.std.specs.Prelude.{Result, Err}
+use Rattle.model.specs.Refusal.{Check, pass}
 use Rattle.model.specs.Files.{files_of}
 use Rattle.model.specs.Netlist.{network, net_check}
 use Rattle.model.specs.ModuleFile.{mod_check}
 use Rattle.model.specs.Stimulus.{stim_check, stim_count}
-use Rattle.model.specs.Acceptance.{panel_limit, file_check, Accepted}
-use Rattle.model.proofs.Refusals.{first_both}
-use Rattle.file_lines.proofs.Stages.{passes, same}
+use Rattle.model.specs.Acceptance.{panel_limit, file_check}
+use Rattle.file_lines.proofs.Stages.{stops, after}
 use Rattle.file_lines.specs.Answer.{Answers}
 use Rattle.file_checks.specs.declared.FileRefusal.{FileRefusal}
 use Rattle.file_checks.specs.Answer.{file_refusal}
 
-pub all_accepted : (net modfile stim : List ℕ) → net_check 4096 net ≡ pass → mod_check (network net) modfile ≡ pass
-    → {r : Result ℕ FileRefusal} {lines : ℕ} → r ≡ Ok lines → Answers file_refusal (stim_count stim) (stim_check (network net) stim) r
-    → Accepted panel_limit (files_of net modfile stim) × (lines ≡ stim_count stim)
-unfolding file_check
-all_accepted net modfile stim n m e answers = (first_both _ _ n (first_both _ _ m (passes answers e)), same answers e)
+module _ (net modfile stim : List ℕ) where
+  abbrev all_files : Check
+  all_files = file_check panel_limit (files_of net modfile stim)
+
+  pub net_answers : {r : Result (Unit {0}) FileRefusal} → Answers file_refusal tt (net_check 4096 net) r → {e : FileRefusal} → r ≡ Err e
+      → Answers file_refusal (stim_count stim) all_files (Err e)
+  unfolding file_check
+  net_answers answers is = stops answers is _
+
+  module _ (net-right : net_check 4096 net ≡ pass) where
+    pub mod_answers : {r : Result (Unit {0}) FileRefusal} → Answers file_refusal tt (mod_check (network net) modfile) r → {e : FileRefusal} → r ≡ Err e
+        → Answers file_refusal (stim_count stim) all_files (Err e)
+    unfolding file_check
+    mod_answers answers is = after net-right (stops answers is _)
+
+    pub stim_answers : {r : Result ℕ FileRefusal} → mod_check (network net) modfile ≡ pass
+        → Answers file_refusal (stim_count stim) (stim_check (network net) stim) r → Answers file_refusal (stim_count stim) all_files r
+    unfolding file_check
+    stim_answers mod-right answers = after net-right (after mod-right answers)

@@ -3,10 +3,9 @@ use Prim.Native.Nat.{ℕ, ◌≤◌, ◌<◌}
 use mathlib.Core.Path.{◌≡◌, refl}
 use mathlib.Core.Bool.{true}
 use mathlib.Core.List.{List}
-use native.Mathlib.Omega.{arith}
 use lib.ListN.{length, get_or}
-use mathlib.Core.Logic.{◌⊎◌, ⊎_elim}
-use borrow.Author.Tests.{eqb-true, eq-eqb, le-leb, lt-leb, leb-true}
+use lib.Dec.{leb}
+use borrow.Author.Tests.{eqb-true, eq-eqb, leb-true}
 use Rattle.logic.specs.Test.{◌and◌}
 use Rattle.logic.proofs.Tests.{and_true, and_left, and_right}
 use Rattle.model.specs.Refusal.{pass, fail, unless}
@@ -72,33 +71,14 @@ module _ (count first_cycle cycles : ℕ) where
         last_high = leb-true (last_cycle first_cycle cycles) 65535 (and_right _ _ rest);
       }
 
-  pub counts_wrong : (ChartCounts → ⊥) → counts_check count first_cycle cycles ≡ fail 46 0
-  unfolding counts_check
-  counts_wrong d = unless_fails _ 46 0 (λ e. d (counted e))
-
-  pub counts_pass : ChartCounts → counts_check count first_cycle cycles ≡ pass
-  unfolding counts_check on_page
-  counts_pass r =
-      unless_pass _ 46 0
-      (and_true _ _ (le-leb 1 count r.count_low)
-      (and_true _ _ (le-leb count page_signals r.count_high)
-      (and_true _ _ (le-leb 1 cycles r.cycles_low)
-      (and_true _ _ (le-leb cycles page_cycles r.cycles_high) (le-leb (last_cycle first_cycle cycles) 65535 r.last_high)))))
-
   pub counts_right : counts_check count first_cycle cycles ≡ pass → ChartCounts
   unfolding counts_check
   counts_right e = counted (unless_true _ 46 0 e)
 
 -- the signal that was read for line k
-module _ (signals : List ℕ) (k : ℕ) {s : ℕ} (e : s ≡ chosen signals k) where
-  pub signal_wrong : (s ≡ 0) ⊎ ((s ≡ 0 → ⊥) × (4096 < s)) → signal_check signals k ≡ fail 41 s
-  unfolding signal_check unless ◌and◌
-  signal_wrong wrong =
-      rw (← e) (⊎_elim (λ z. rw z) (λ h. rw (le-leb 1 s (omega (arith, h.1)), lt-leb s 4096 h.1)) wrong)
-
-  pub signal_right : (s ≡ 0 → ⊥) → s ≤ 4096 → signal_check signals k ≡ pass
-  unfolding signal_check unless ◌and◌
-  signal_right some h = rw (← e, le-leb 1 s (omega arith), le-leb s 4096 h)
+pub signal_judged : (signals : List ℕ) (k : ℕ) {s : ℕ} → s ≡ chosen signals k → signal_check signals k ≡ unless (leb 1 s and leb s 4096) 41 s
+unfolding signal_check
+signal_judged signals k e = rw e
 
 -- the values of line k
 module _ (values : List ℕ) (cycles k : ℕ) (row : List ℕ) (size : length row ≡ cycles)

@@ -1,10 +1,9 @@
 -- Texts stored one after the other: a list byte by byte, the two kinds of lines from their pieces, the page line by line.
 use Prim.Native.Nat.{ℕ, zero, suc, ◌+◌, ◌-◌, ◌*◌, ◌<◌, ◌≤◌}
 use mathlib.Core.Path.{◌≡◌, refl, sym, ◌∙◌, ap, ap₂}
-use Rattle.std.proofs.Common.{append_assoc}
 use borrow.Rule.Slice.PartMut.{put_mid}
 use Rattle.fields.specs.Field.{space}
-use Rattle.std.proofs.lemmas.List.{drop-drop, length-take, length-drop}
+use Rattle.std.proofs.lemmas.List.{length-take, length-drop}
 use mathlib.Core.List.{List, [], ◌∷◌, ◌++◌}
 use native.Mathlib.Omega.{arith}
 use native.Mathlib.Numerals.{add-one}
@@ -13,7 +12,7 @@ use lib.Seq.{sets, length-sets, sets-eq}
 use Rattle.logic.specs.Listed.{listed}
 use Rattle.logic.proofs.Listed.{listed_length, listed_more, listed_same, filled}
 use Rattle.writing.specs.Text.{field_text}
-use Rattle.writing.proofs.Writing.{length_text, sets_append}
+use Rattle.writing.proofs.Writing.{length_text, sets_append, put_sets}
 use Rattle.model.specs.Listing.{joined}
 use Rattle.charts.specs.Page.{page_cycles, line_columns, line_bytes, number_columns, cycles_columns, value_column, chosen, charted, glyph, last_cycle}
 use Rattle.charts.specs.Text.{spaces, head_text, row_text, chart_row, page_text, printed_on}
@@ -22,13 +21,6 @@ use Rattle.charts.specs.Text.{spaces, head_text, row_text, chart_row, page_text,
 module _ (l xs ys : List ℕ) (i j : ℕ) {mid last : List ℕ} where
   pub joins : last ≡ sets mid j ys → mid ≡ sets l i xs → j ≡ i + length xs → last ≡ sets l i (xs ++ ys)
   joins e m place = e ∙ ap (λ (r : List ℕ). sets r j ys) m ∙ sets_append l xs ys i j place
-
--- a part of a buffer, written whole
-pub put_sets : (l xs : List ℕ) (at k : ℕ) → k ≡ length xs → at + k ≤ length l → put_mid at k l xs ≡ sets l at xs
-put_sets l xs at k size inside =
-    ap (λ (r : List ℕ). take at l ++ (xs ++ r)) (drop-drop k at l ∙ ap (λ (n : ℕ). drop (at + n) l) size)
-    ∙ sym (append_assoc (take at l) xs (drop (at + length xs) l))
-    ∙ sym (sets-eq xs l at (omega arith))
 
 pub spaces_put : (l new : List ℕ) (at count : ℕ) → at + count ≤ length l → new ≡ replicate (length (take (at + count - at) (drop at l))) space
     → put_mid at (at + count - at) l new ≡ sets l at (spaces count)

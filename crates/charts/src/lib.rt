@@ -11,7 +11,7 @@ ghost use Rattle.file_lines.specs.Answer.{Answers};
 ghost use Rattle.session_answers.specs.Answers.{check_bits};
 ghost use Rattle.session_answers.specs.Leaves.{Leaves};
 ghost use Rattle.session_answers.specs.Left.{left_after};
-ghost use Rattle.charts.specs.Page.{page_signals, page_cycles, line_bytes, charted, glyph as glyph_of, last_cycle};
+ghost use Rattle.charts.specs.Page.{page_signals, page_cycles, line_bytes, chosen, charted, glyph as glyph_of, last_cycle};
 ghost use Rattle.charts.specs.Text.{spaces, head_text, row_text, chart_row, page_text, printed_on};
 ghost use Rattle.charts.specs.Checks.{counts_check, signals_check, rows_check, chart_check};
 ghost use Rattle.charts.specs.Answer.{chart_refusal};
@@ -101,10 +101,10 @@ impl From<NoSuchValue> for ChartRefusal {
 fn check_counts(count: u32, first: u32, cycles: u32) -> Result<(), ChartRefusal>
     ensures { Answers chart_refusal (tt {0}) (counts_check count first cycles) result }
 {
-    if count == 0 || MOST_SIGNALS < count {
+    if !(1..=MOST_SIGNALS).contains(&count) {
         return Err(ChartRefusal::OffPage);
     }
-    if cycles == 0 || MOST_CYCLES < cycles {
+    if !(1..=MOST_CYCLES).contains(&cycles) {
         return Err(ChartRefusal::OffPage);
     }
     if LAST_CYCLE - (cycles - 1) < first {
@@ -113,7 +113,8 @@ fn check_counts(count: u32, first: u32, cycles: u32) -> Result<(), ChartRefusal>
     Ok(())
 }
 
-// What a page can carry: the chosen signals, their recorded values, and how many of both are printed.
+// What a page can carry: the chosen signals, their recorded values, and how many of both are printed. C lends both buffers at
+// their fixed lengths, and the counts beside them.
 #[derive(Drop)]
 struct Plot<'a> {
     signals: &'a [u8; SIGNALS_BYTES],
@@ -183,14 +184,24 @@ fn write_row(page: &mut [u8], at: usize, signal: u16, values: &[u8])
 }
 
 impl<'a> Plot<'a> {
+    // A buffer is named first: a proof takes its length from the type of a variable, and not of a field.
+
+    // The signal chosen for a line.
+    fn signal(&self, line: usize) -> u16
+        requires { line < self.now.count }
+        ensures { result ≡ chosen self.now.signals.now line }
+    {
+        let signals = self.signals;
+        words::word_at(signals, 2 * line)
+    }
+
     // 41: the first chosen signal that there cannot be.
     fn check_signals(&self) -> Result<(), ChartRefusal>
         ensures { Answers chart_refusal (tt {0}) (signals_check self.now.signals.now self.now.count) result }
     {
-        let signals = self.signals;
         for k in 0..self.count {
-            let signal = words::word_at(signals, 2 * k);
-            if signal == 0 || LAST_SIGNAL < signal {
+            let signal = self.signal(k);
+            if !(1..=LAST_SIGNAL).contains(&signal) {
                 return Err(ChartRefusal::NoSuchSignal(signal));
             }
         }
@@ -221,10 +232,8 @@ impl<'a> Plot<'a> {
     fn fill_rows(&self, page: &mut [u8; PAGE_BYTES])
         ensures { page.new ≡ sets page.old line_bytes (joined self.now.count (chart_row self.now.signals.now self.now.values.now self.now.cycles)) }
     {
-        let signals = self.signals;
         for k in 0..self.count {
-            let signal = words::word_at(signals, 2 * k);
-            write_row(page, LINE * (k + 1), signal, self.row(k));
+            write_row(page, LINE * (k + 1), self.signal(k), self.row(k));
         }
     }
 
@@ -268,7 +277,8 @@ fn chart_checked(
     Ok(())
 }
 
-// Prints a chart page into a buffer. Refused by 40, 46, 41, 42, and then no byte of the page changes.
+// Prints a chart page into a buffer. Refused by 40, 46, 41, 42, and then no byte of the page changes. The six parameters are C's: a `Plot`
+// is what they make once they are judged.
 pub fn chart(
     signals: &[u8],
     values: &[u8],

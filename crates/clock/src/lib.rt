@@ -11,7 +11,7 @@ pub struct Slot(pub u16);
 pub struct Cycle(pub u16);
 
 // What a run answers: "the cycles done and whether it stopped". The machine answers it, and the session's call hands it on.
-#[derive(Clone, Copy)]
+#[derive(Clone, Copy, Debug, PartialEq, Eq)]
 pub struct Ran {
     pub done: Cycle,
     pub stopped: bool,

@@ -1,23 +1,20 @@
 -- Fields and lines that lie within the first m bytes of a file are the same in those bytes alone.
-use Prim.Native.Nat.{ℕ, zero, suc, ◌+◌, ◌-◌, ◌*◌, ◌≤◌}
-use mathlib.Core.Path.{◌≡◌, sym, ap}
-use mathlib.Core.List.{List, [], ◌∷◌}
+use Prim.Native.Nat.{ℕ, ◌+◌, ◌-◌, ◌*◌, ◌≤◌}
+use mathlib.Core.Path.{◌≡◌, ap, ◌∙◌}
+use mathlib.Core.List.{List}
 use native.Mathlib.Omega.{arith}
 use lib.ListN.{take, drop}
-use lib.Seq.{take-nil, take-take, get_or-take}
+use lib.Seq.{take-take, get_or-take}
+use Rattle.std.proofs.lemmas.List.{drop-take}
 use Rattle.logic.proofs.Tests.{all_same}
 use Rattle.fields.specs.Field.{columns_at, is_field, is_field_at, number, number_at}
 use Rattle.fields.specs.Line.{is_line_at, line_length}
 
-drop_take : (i m : ℕ) (l : List ℕ) → drop i (take m l) ≡ take (m - i) (drop i l)
-drop_take zero m l = let e : m - 0 ≡ m = omega arith in rw e
-drop_take (suc i) zero l = let e : 0 - suc i ≡ 0 = omega arith in rw e
-drop_take (suc i) (suc m) [] = sym (take-nil (suc m - suc i))
-drop_take (suc i) (suc m) (x ∷ xs) = let e : suc m - suc i ≡ m - i = omega arith in rw e (drop_take i m xs)
-
 module _ (m : ℕ) (l : List ℕ) where
   columns_take : (at : ℕ) → at + 6 ≤ m → columns_at (take m l) at ≡ columns_at l at
-  columns_take at h = rw (drop_take at m l) (take-take 6 (m - at) (drop at l) (omega arith))
+  columns_take at h =
+      let within : m ≡ at + (m - at) = omega arith in
+      ap (λ k. take 6 (drop at (take k l))) within ∙ rw (drop-take at (m - at) l) (take-take 6 (m - at) (drop at l) (omega arith))
 
   pub number_take : (at : ℕ) → at + 6 ≤ m → number_at (take m l) at ≡ number_at l at
   number_take at h = ap number (columns_take at h)

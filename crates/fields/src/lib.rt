@@ -4,6 +4,7 @@
 
 ghost use Rattle.std.specs.Prelude.{◌≡◌, true, ℕ, ◌+◌, ◌*◌, ◌%◌, ◌<◌, ◌≤◌, eqb, length, get_or};
 ghost use Rattle.logic.specs.Test.{all};
+ghost use Rattle.logic.specs.Numbered.{numbered};
 ghost use Rattle.fields.specs.Field.{is_field_at, number_at};
 ghost use Rattle.fields.specs.Line.{newline};
 ghost use Rattle.fields.specs.Reading.{read_field, read_line};
@@ -13,7 +14,8 @@ mod line;
 
 pub use line::Line;
 
-// What the columns passed so far are, where they may begin a right field: spaces alone, or a number.
+// What the columns passed so far are, where they may begin a right field: spaces alone, or a number. As an `Option<u16>` the answer of a
+// column would be an `Option` of an `Option`, in which one None is a fault and the other is spaces.
 #[derive(Clone, Copy, Debug, PartialEq, Eq)]
 pub enum Scan {
     Blank,
@@ -32,35 +34,16 @@ fn extend(n: u16, digit: u8) -> Option<u16>
     u16::try_from(next).ok()
 }
 
-// The column c after spaces alone.
+// The column c after those before it.
 #[tactic(auto, using(crate::proofs::Digit::digits), unfolding(crate::specs::Scan::scan))]
-fn first_column(c: u8) -> Option<Scan>
-    ensures { result ≡ scan Scan.Blank c }
-{
-    match c {
-        b' ' => Some(Scan::Blank),
-        b'0'..=b'9' => Some(Scan::Digits(u16::from(c - b'0'))),
-        _ => None,
-    }
-}
-
-// The column c after the number n.
-#[tactic(auto, using(crate::proofs::Digit::digits), unfolding(crate::specs::Scan::scan))]
-fn next_column(n: u16, c: u8) -> Option<Scan>
-    ensures { result ≡ scan (Scan.Digits n) c }
-{
-    match c {
-        b'0'..=b'9' => extend(n, c - b'0').map(Scan::Digits),
-        _ => None,
-    }
-}
-
 fn scan_column(state: Scan, c: u8) -> Option<Scan>
     ensures { result ≡ scan state c }
 {
-    match state {
-        Scan::Blank => first_column(c),
-        Scan::Digits(n) => next_column(n, c),
+    match (state, c) {
+        (Scan::Blank, b' ') => Some(Scan::Blank),
+        (Scan::Blank, b'0'..=b'9') => Some(Scan::Digits(u16::from(c - b'0'))),
+        (Scan::Digits(n), b'0'..=b'9') => extend(n, c - b'0').map(Scan::Digits),
+        _ => None,
     }
 }
 
@@ -98,7 +81,7 @@ pub fn read_field(s: &[u8], at: usize) -> Option<(u16, usize)>
 pub fn ends_line(s: &[u8], at: usize) -> bool
     ensures { result ≡ eqb (get_or s.now at 0) newline }
 {
-    at < s.len() && s[at] == b'\n'
+    s.get(at) == Some(&b'\n')
 }
 
 // The line of `count` fields at a place, each field in turn and then byte 10: the place after it, or none that is right.
@@ -110,11 +93,7 @@ pub fn read_line(s: &[u8], at: usize, count: usize) -> Option<usize>
         let (_, next) = read_field(s, place)?;
         place = next;
     }
-    if ends_line(s, place) {
-        Some(place + 1)
-    } else {
-        None
-    }
+    ends_line(s, place).then(|| place + 1)
 }
 
 // The low half of a byte: of a digit its value, of a space 0.
@@ -124,7 +103,8 @@ fn low_half(c: u8) -> u32
     u32::from(c % 16)
 }
 
-// What the low halves of a field's last five columns spell.
+// What the low halves of a field's last five columns spell. Five terms and no fold: its closure would be asked how large the number is so
+// far, since ten times it may overflow.
 fn low_number(s: &[u8], at: usize) -> u32
     requires { at + 6 ≤ length s.now }
     ensures { result ≡ low_number s.now at }
@@ -143,7 +123,15 @@ pub fn number_at(s: &[u8], at: usize) -> u16
     low_number(s, at) as u16
 }
 
-// "zeros": `count` fields from a place on, which were read before and are right, are 0.
+// A number of which 0 says that there is none.
+pub fn numbered(number: u16) -> Option<u16>
+    ensures { result ≡ numbered number }
+{
+    (number != 0).then_some(number)
+}
+
+// "zeros": `count` fields from a place on, which were read before and are right, are 0. A method of `Line`
+// would ask for their line, too, and so promise less.
 pub fn zeros_at(s: &[u8], at: usize, count: usize) -> bool
     requires { (k : ℕ) → k < count → is_field_at s.now (at + 6 * k) ≡ true }
     ensures { result ≡ all count (λ k. eqb (number_at s.now (at + 6 * k)) 0) }

@@ -16,6 +16,7 @@ pub struct Line<'a, const N: usize> {
 }
 
 impl<'a, const N: usize> Line<'a, N> {
+    // By its offset, which each file counts by its own lines' length, as its definitions do.
     pub fn new(bytes: &'a [u8], at: usize) -> Self
         requires { is_line_at bytes.now at N ≡ true }
         ensures { (result.bytes.now ≡ bytes.now) × (result.at ≡ at) }

@@ -92,8 +92,7 @@ pub fn check_mod(net: &Netlist, modfile: &[u8]) -> Result<(), FileRefusal>
 pub fn check_stim(net: &Netlist, stim: &[u8]) -> Result<u16, FileRefusal>
     ensures { Answers file_refusal (stim_count stim.now) (stim_check (network net.now.net.now) stim.now) result }
 {
-    let lines = file_stim::check_stim(net, stim)?;
-    Ok(lines)
+    Ok(file_stim::check_stim(net, stim)?)
 }
 
 // "Order: NET, MOD, STIM." The first that breaks its conditions is refused, before the next is read: taken apart by let-else there, and not
@@ -116,7 +115,8 @@ pub fn check_files(files: &FileBytes) -> Result<(), FileRefusal>
 
 // "prints one line of two fields, number and returned value": nothing where the files are accepted, which is promised, too, so that an
 // answer is taken and not a refusal alone.
-// By `as`, in this file, where the bound is proved: no `From` has this conversion, and `TryFrom` has an error that cannot happen.
+// What is returned is told in 32 bits, as the session's calls return signals of 32; what a file returns is a line or a signal below 65536,
+// which is proved here. So by `as`: no `From` has this conversion, and `TryFrom` has an error that cannot happen.
 pub fn write_refusal(answer: Result<(), FileRefusal>, out: &mut [u8]) -> usize
     requires { 13 ≤ length out.old }
     ensures value { result ≡ length (refused_text (answered file_refusal answer)) }

@@ -3,7 +3,6 @@
 #![tactic(auto)]
 
 ghost use Rattle.std.specs.Prelude.{◌≡◌, ℕ, Bool, ◌≤◌, get_or};
-ghost use Rattle.model.specs.Network.{Network};
 ghost use Rattle.model.specs.Netlist.{network};
 ghost use Rattle.model.specs.Module.{placements};
 ghost use Rattle.model.specs.ModuleFile.{module_of, placed, mod_check};
@@ -11,7 +10,6 @@ ghost use Rattle.model.specs.Refusal.{fail};
 ghost use Rattle.file_lines.specs.Answer.{Answers};
 ghost use Rattle.file_mod_lines.specs.Answer.{mod_refusal, ModAnswers};
 ghost use Rattle.file_mod_table.specs.Line.{Within};
-ghost use Rattle.file_mod_sources.specs.Asked.{Placed};
 ghost use Rattle.file_mod.specs.Known.{Known};
 ghost use Rattle.file_mod.specs.Counting.{counted_once};
 ghost use Rattle.file_mod.specs.Testing.{Computes, each_right, module_check};
@@ -21,7 +19,8 @@ use file_mod_sources::{PlacedLine, reception_right, send_right};
 use file_mod_table::ModTable;
 use netlist::Netlist;
 
-// How often each signal is placed, counted line by line.
+// How often each signal is placed, counted line by line. The array is lent: handed out, it takes its 8 KB twice of the stack, which is
+// counted (docs/PANEL.md).
 fn count_signals(table: &ModTable, counts: &mut [u16; 4097])
     requires { (s : ℕ) → s ≤ 4096 → get_or counts.old s 0 ≡ 0 }
     ensures { (s : ℕ) → s ≤ 4096 → get_or counts.new s 0 ≡ placements (module_of table.now.modfile.now) s }
@@ -31,7 +30,7 @@ fn count_signals(table: &ModTable, counts: &mut [u16; 4097])
     }
 }
 
-// 22: the smallest signal that is not counted once.
+// 22: the smallest signal that is not counted once. Below N + 1 and not up to N: the library's law of `find` is of a half-open range.
 fn find_unplaced(counts: &[u16; 4097], signals: u16) -> Result<(), ModRefusal>
     requires { signals ≤ 4096 }
     ensures { Answers mod_refusal tt (counted_once signals counts.now) result }
@@ -43,13 +42,12 @@ fn find_unplaced(counts: &[u16; 4097], signals: u16) -> Result<(), ModRefusal>
 }
 
 // 22: "signal not placed exactly once".
-fn check_placements(table: &ModTable, signals: u16) -> Result<(), ModRefusal>
-    requires { signals ≤ 4096 }
-    ensures { (n : Network) → n.size ≡ signals → Answers mod_refusal tt (placed n (module_of table.now.modfile.now)) result }
+fn check_placements(net: &Netlist, table: &ModTable) -> Result<(), ModRefusal>
+    ensures { Answers mod_refusal tt (placed (network net.now.net.now) (module_of table.now.modfile.now)) result }
 {
     let mut counts = [0; 4097];
     count_signals(table, &mut counts);
-    find_unplaced(&counts, signals)
+    find_unplaced(&counts, net.signals())
 }
 
 // A test over all lines: the first that is not right is refused, with its number. They are counted from 0, as their places are divided
@@ -71,14 +69,12 @@ fn check_module(net: &Netlist, table: &ModTable) -> Result<(), ModRefusal>
     requires { Known net.now.net.now table.now.modfile.now table.now.shape }
     ensures { Answers mod_refusal tt (module_check (network net.now.net.now) table.now.modfile.now) result }
 {
-    check_placements(table, net.signals())?;
+    check_placements(net, table)?;
     check_each(table, |place| send_right(table, place)).map_err(ModRefusal::Send)?;
     check_each(table, |place| reception_right(table, place)).map_err(ModRefusal::Reception)?;
     check_each(
         table,
-        |place|
-            requires { Placed net.now.net.now table.now.modfile.now table.now.shape place.processor place.slot.0 }
-        { PlacedLine { net, table, place }.operands_right() },
+        |place| PlacedLine::new(net, table, place).operands_right(),
     )
     .map_err(ModRefusal::WrongOperand)
 }

@@ -9,7 +9,7 @@ ghost use Rattle.model.specs.ModuleFile.{mod_header, mod_slot, each_line, mod_su
 ghost use Rattle.file_lines.specs.Answer.{Answers};
 ghost use Rattle.file_mod_lines.specs.Answer.{mod_refusal, ModAnswers, Sized};
 ghost use Rattle.file_mod_lines.specs.Form.{form_check};
-ghost use Rattle.file_mod_lines.specs.Layout.{header_at, pair_at, operands_at, line_at};
+ghost use Rattle.file_mod_lines.specs.Layout.{number_in, header_at, pair_at, operands_at, line_at};
 
 use clock::Slot;
 use fields::Line;
@@ -46,7 +46,8 @@ impl Refusal for ModRefusal {
     }
 }
 
-// P and C, which line 1 gives.
+// P and C, which line 1 gives. Their bounds are no facts of the type: definitions make a `Shape` of any line 1 (`shape_of`), and whoever
+// makes one would be asked for them.
 #[derive(Clone, Copy)]
 pub struct Shape {
     pub processors: u16,
@@ -61,6 +62,16 @@ pub struct Place {
 }
 
 impl Shape {
+    // P and C, as line 1 has them.
+    pub fn of_line(line: &Line<14>) -> Shape
+        ensures { (result.processors ≡ number_in line.now.bytes.now line.now.at 0) × (result.slots ≡ number_in line.now.bytes.now line.now.at 1) }
+    {
+        Shape {
+            processors: line.number(0),
+            slots: line.number(1),
+        }
+    }
+
     // P × C.
     pub fn lines(self) -> u16
         requires { (self.processors ≤ 16) × (self.slots ≤ 256) }
@@ -171,10 +182,7 @@ fn check_header(modfile: &[u8]) -> Result<Shape, ModRefusal>
     if !is_header_laid(&line) {
         return Err(ModRefusal::Layout(1));
     }
-    Ok(Shape {
-        processors: line.number(0),
-        slots: line.number(1),
-    })
+    Ok(Shape::of_line(&line))
 }
 
 // The lines after the first, in their order: 20, then 21, and left at the first fault with its line. They are counted from 0, as their
@@ -187,10 +195,10 @@ fn check_lines(modfile: &[u8], signals: u16, shape: Shape) -> Result<(), ModRefu
     'lines: for k in 0..shape.lines() {
         let at = 85 * (usize::from(k) + 1);
         for column in 0..14 {
-            let Some(_) = fields::read_field(modfile, at + 6 * column) else {
+            if fields::read_field(modfile, at + 6 * column).is_none() {
                 answer = Err(ModRefusal::Misformed(k + 2));
                 break 'lines;
-            };
+            }
         }
         if !fields::ends_line(modfile, at + 84) {
             answer = Err(ModRefusal::Misformed(k + 2));

@@ -20,10 +20,12 @@ use Rattle.instruction.specs.declared.Operand.{Operand}
 use Rattle.instruction.specs.declared.Operand.TheVariants.{LocalEarlier, LocalPresent, SwitchEarlier, SwitchPresent}
 use Rattle.instruction.specs.declared.Operand.TheVariants as operand
 use Rattle.instruction.proofs.Pairs.{part_of_pair, location_of_pair}
+use Rattle.file_mod_lines.specs.declared.Place.{Place}
 use Rattle.file_mod_lines.specs.declared.Shape.{Shape}
 use Rattle.file_mod_table.specs.Line.{LinesLaid, Within}
 use Rattle.file_mod_table.proofs.Slots.{line_within, slot_laid}
-use Rattle.file_mod_table.proofs.Senders.{From}
+use Rattle.file_mod_table.specs.Sender.{Received}
+use Rattle.file_mod_table.proofs.Senders.{From, sender_is}
 use Rattle.file_mod_sources.specs.Mirror.{half_part, sent_from}
 
 -- slot i of processor p sends what a names, which is of "a send 0, 1 or 9"
@@ -39,6 +41,15 @@ sends {l} {shape} {p} {i} laid within is =
     let known = (slot_laid l shape.slots p i (line_within laid within)).send.part_known in
     let part = sym (ap part_of is ∙ part_of_pair _ _ (⊎_map (λ h. omega arith) (λ e. e) known)) in
     record { part = part; location = sym (ap location_of is ∙ location_of_pair _ _); known = rw part at known }
+
+-- what is read of the line received from
+module _ {l : List ℕ} {shape : Shape} (laid : LinesLaid l shape.processors shape.slots) {into from : Place} {send : Operand}
+    (received : Received (module_of l) shape into from send) where
+  pub received_from : From ((module_of l).sender into.processor into.slot.0) from.processor
+  received_from = sender_is _ _ received.sender
+
+  pub received_sends : Sends (module_of l) from.processor into.slot.0 send
+  received_sends = sends laid received.within received.sends
 
 module _ (m : Module) (p i : ℕ) where
   -- 24

@@ -28,78 +28,77 @@ fn sent_from(table: &ModTable, into: Place, present: bool) -> Option<u16>
     requires { Within table.now.shape into.processor into.slot.0 }
     ensures { result ≡ sent_from (module_of table.now.modfile.now) into.processor into.slot.0 (half_part present) }
 {
-    let processor = table.sender_at(into)?;
-    let from = into.of_processor(processor);
-    let send = table.send_at(from);
+    let (from, send) = table.received_at(into)?;
     if !is_of_half(send, present) {
         return None;
     }
     table.signal_at(from.at(send.location()))
 }
 
-// The gate of an operand: its place, its kind, and the source that the operand has to read.
+// The gate of an operand: MOD and its place there, its kind, and the source that the operand has to read.
 #[derive(Clone, Copy)]
-pub struct Gate {
+pub struct Gate<'a> {
+    pub table: &'a ModTable<'a>,
     pub place: Place,
     pub kind: Kind,
     pub source: u16,
     pub ghost some: { 1 ≤ source },
 }
 
-impl Gate {
+impl Gate<'_> {
     // "Local 0: the signal placed at k is the source, gate unit-delay."
     #[tactic(auto, using(logic::proofs::Judged::connected), unfolding(model::specs::Module::reads))]
-    fn local_earlier_right(self, table: &ModTable, k: u8) -> bool
-        requires { Within table.now.shape self.place.processor k }
-        ensures { result ≡ gate_reads table.now.modfile.now self.place self.kind self.source local_earlier k }
+    fn local_earlier_right(&self, k: u8) -> bool
+        requires { Within self.now.table.now.shape self.now.place.processor k }
+        ensures { result ≡ gate_reads self.now.table.now.modfile.now self.now.place self.now.kind self.now.source local_earlier k }
     {
-        self.kind == Kind::UnitDelay && table.signal_at(self.place.at(k)) == Some(self.source)
+        self.kind == Kind::UnitDelay && self.table.signal_at(self.place.at(k)) == Some(self.source)
     }
 
     // "Local 1: k < i, the signal at k is the source, gate rank-order."
     #[tactic(auto, using(logic::proofs::Judged::connected), unfolding(model::specs::Module::reads))]
-    fn local_present_right(self, table: &ModTable, k: u8) -> bool
-        requires { Within table.now.shape self.place.processor k }
-        ensures { result ≡ gate_reads table.now.modfile.now self.place self.kind self.source local_present k }
+    fn local_present_right(&self, k: u8) -> bool
+        requires { Within self.now.table.now.shape self.now.place.processor k }
+        ensures { result ≡ gate_reads self.now.table.now.modfile.now self.now.place self.now.kind self.now.source local_present k }
     {
         let read = self.place.at(k);
         self.kind == Kind::RankOrder
             && read.slot < self.place.slot
-            && table.signal_at(read) == Some(self.source)
+            && self.table.signal_at(read) == Some(self.source)
     }
 
     // "Part 2 wants a send of part 1, gate unit-delay."
     #[tactic(auto, using(logic::proofs::Judged::connected), unfolding(model::specs::Module::reads, crate::specs::Mirror::sent_from))]
-    fn switch_earlier_right(self, table: &ModTable, k: u8) -> bool
-        requires { Within table.now.shape self.place.processor k }
-        ensures { result ≡ gate_reads table.now.modfile.now self.place self.kind self.source switch_earlier k }
+    fn switch_earlier_right(&self, k: u8) -> bool
+        requires { Within self.now.table.now.shape self.now.place.processor k }
+        ensures { result ≡ gate_reads self.now.table.now.modfile.now self.now.place self.now.kind self.now.source switch_earlier k }
     {
         self.kind == Kind::UnitDelay
-            && sent_from(table, self.place.at(k), true) == Some(self.source)
+            && sent_from(self.table, self.place.at(k), true) == Some(self.source)
     }
 
     // "Part 3 wants k < i, and a send of part 0 for a unit-delay gate or part 1 for a rank-order gate."
     #[tactic(auto, using(logic::proofs::Judged::connected), unfolding(model::specs::Module::reads, crate::specs::Mirror::sent_from))]
-    fn switch_present_right(self, table: &ModTable, k: u8) -> bool
-        requires { Within table.now.shape self.place.processor k }
-        ensures { result ≡ gate_reads table.now.modfile.now self.place self.kind self.source switch_present k }
+    fn switch_present_right(&self, k: u8) -> bool
+        requires { Within self.now.table.now.shape self.now.place.processor k }
+        ensures { result ≡ gate_reads self.now.table.now.modfile.now self.now.place self.now.kind self.now.source switch_present k }
     {
         let into = self.place.at(k);
         into.slot < self.place.slot
-            && sent_from(table, into, self.kind != Kind::UnitDelay) == Some(self.source)
+            && sent_from(self.table, into, self.kind != Kind::UnitDelay) == Some(self.source)
     }
 
     // The operand reads the source.
     #[tactic(auto, using(logic::proofs::Judged::connected), unfolding(model::specs::Module::reads))]
-    pub fn reads(self, table: &ModTable, a: Operand) -> bool
-        requires { Within table.now.shape self.place.processor (location_of a) }
-        ensures { result ≡ gate_reads table.now.modfile.now self.place self.kind self.source (part_of a) (location_of a) }
+    pub fn reads(&self, a: Operand) -> bool
+        requires { Within self.now.table.now.shape self.now.place.processor (location_of a) }
+        ensures { result ≡ gate_reads self.now.table.now.modfile.now self.now.place self.now.kind self.now.source (part_of a) (location_of a) }
     {
         match a {
-            Operand::LocalEarlier(k) => self.local_earlier_right(table, k),
-            Operand::LocalPresent(k) => self.local_present_right(table, k),
-            Operand::SwitchEarlier(k) => self.switch_earlier_right(table, k),
-            Operand::SwitchPresent(k) => self.switch_present_right(table, k),
+            Operand::LocalEarlier(k) => self.local_earlier_right(k),
+            Operand::LocalPresent(k) => self.local_present_right(k),
+            Operand::SwitchEarlier(k) => self.switch_earlier_right(k),
+            Operand::SwitchPresent(k) => self.switch_present_right(k),
             Operand::None(_) => false,
         }
     }

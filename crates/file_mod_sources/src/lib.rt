@@ -40,13 +40,10 @@ pub fn reception_right(table: &ModTable, place: Place) -> bool
     requires { Within table.now.shape place.processor place.slot.0 }
     ensures { result ≡ reception_right (module_of table.now.modfile.now) place.processor place.slot.0 }
 {
-    let Some(processor) = table.sender_at(place) else {
+    let Some((_, send)) = table.received_at(place) else {
         return true;
     };
-    !matches!(
-        table.send_at(place.of_processor(processor)),
-        Operand::None(_)
-    )
+    !matches!(send, Operand::None(_))
 }
 
 // The line at a place with NET, which has the signal that the line places.
@@ -59,11 +56,18 @@ pub struct PlacedLine<'a> {
 }
 
 impl<'a> PlacedLine<'a> {
+    pub fn new(net: &'a Netlist<'a>, table: &'a ModTable<'a>, place: Place) -> Self
+        requires { Placed net.now.net.now table.now.modfile.now table.now.shape place.processor place.slot.0 }
+        ensures { (result.net.now ≡ net.now) × (result.table.now ≡ table.now) × (result.place ≡ place) }
+    {
+        PlacedLine { net, table, place }
+    }
+
     // The line's gate with the source of its operand j: none where the operand has nothing to read.
     #[tactic(auto, using(netlist::proofs::InPlace::sized), unfolding(model::specs::Module::must_be_none, model::specs::Network::is_signal))]
-    fn gate(&self, j: usize) -> Option<Gate>
+    fn gate(&self, j: usize) -> Option<Gate<'a>>
         requires { j < 4 }
-        ensures { FoundGate (network self.now.net.now.net.now) (module_of self.now.table.now.modfile.now) self.now.place j result }
+        ensures { FoundGate (network self.now.net.now.net.now) self.now.table.now self.now.place j result }
     {
         let signal = self.table.signal_at(self.place)?;
         let kind = self.net.kind(signal);
@@ -72,6 +76,7 @@ impl<'a> PlacedLine<'a> {
             return None;
         }
         Some(Gate {
+            table: self.table,
             place: self.place,
             kind,
             source,
@@ -85,7 +90,7 @@ impl<'a> PlacedLine<'a> {
     {
         let a = self.table.operand_at(self.place, j);
         match self.gate(j) {
-            Some(gate) => gate.reads(self.table, a),
+            Some(gate) => gate.reads(a),
             None => matches!(a, Operand::None(_)),
         }
     }

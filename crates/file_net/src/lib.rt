@@ -59,9 +59,9 @@ fn check_header(net: &[u8], limit: u16) -> Result<u16, NetRefusal>
     Ok(header.field(1))
 }
 
-// The lines of the signals 1 to N, in order: 10 before 11 before 12 in each, and left at the first fault with its line. A labelled loop that
-// is left with its answer is the form that document 01 names, here and for MOD and STIM. N is read once and handed down, here and to each
-// line: that it is N is asked of whoever hands it.
+// The lines of the signals 1 to N, in order: 10 before 11 before 12 in each, and left at the first fault with its line. A labelled loop
+// that is left with its answer is the form that document 01 names, here and for MOD and STIM. N is read once and handed down, here and to
+// each line: that it is N is asked of whoever hands it.
 fn check_lines(net: &[u8], size: u16) -> Result<(), NetRefusal>
     requires { (size ≡ net_size net.now) × (size ≤ 4096) }
     ensures { Answers net_refusal tt (net_lines net.now) result }
@@ -71,10 +71,10 @@ fn check_lines(net: &[u8], size: u16) -> Result<(), NetRefusal>
         let index = usize::from(signal);
         let at = 73 * index;
         for column in 0..12 {
-            let Some(_) = read_field(net, at + 6 * column) else {
+            if read_field(net, at + 6 * column).is_none() {
                 answer = Err(NetRefusal::Misformed(signal + 1));
                 break 'lines;
-            };
+            }
         }
         if !ends_line(net, at + 72) {
             answer = Err(NetRefusal::Misformed(signal + 1));

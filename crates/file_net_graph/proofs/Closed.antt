@@ -16,6 +16,7 @@ use Rattle.model.specs.Network.{Signal, rank_order, Feeds, Chain}
 use Rattle.model.specs.Netlist.{net_field, network}
 use Rattle.file_net_graph.specs.Lines.{Lines}
 use Rattle.file_net_graph.specs.Graph.{follow_to, feeder_of, edges_to, follow_of, edges_of}
+use Rattle.file_net_graph.proofs.Loading.{entries_loaded}
 
 abbrev none_marked : List Bool
 none_marked = replicate 4097 false
@@ -253,3 +254,9 @@ module _ (net : List ℕ) (size : ℕ) (lines : Lines net size) where
       go : (b : Bool) → get_or follow x false ≡ b → P (if b then x else 0)
       go true e = let r = rank_marked x e in some (record { low = r.low; high = r.high; chosen = e })
       go false e = none (λ g. true≢false (sym g.chosen ∙ e))
+
+-- marks and entries that are loaded are a graph
+pub graph_loaded : (net : List ℕ) (marks : List Bool) (entries : List ℕ) (size : ℕ) → Lines net size → marks ≡ follow_of net size
+    → entries ≡ edges_to net marks (replicate 16388 0) (4 * size) → IsGraph marks entries size
+graph_loaded net marks entries size lines marked loaded =
+    rw (entries_loaded net marks entries size marked loaded, marked) (graph net size lines)

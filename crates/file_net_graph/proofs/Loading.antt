@@ -1,7 +1,7 @@
 -- The stores by which the graph of the rank-order gates is loaded, and what stands in it.
 use Prim.Native.Nat.{ℕ, suc, ◌+◌, ◌-◌, ◌*◌, ◌≤◌}
-use mathlib.Core.Path.{◌≡◌, ◌∙◌, ap, ap₂}
-use mathlib.Core.Bool.{Bool, false}
+use mathlib.Core.Path.{◌≡◌, ◌∙◌, ap}
+use mathlib.Core.Bool.{Bool}
 use mathlib.Core.List.{List}
 use native.Mathlib.Omega.{arith}
 use lib.Dec.{eqb}
@@ -29,10 +29,8 @@ module _ (net : List ℕ) (follow : List Bool) (l : List ℕ) where
       let n : i + 1 - 4 ≡ suc (i - 4) = omega arith in
       rw (n, ← k, q, e)
 
--- both arrays, from zeros
-pub loaded_graph : (net : List ℕ) (follow₀ follow : List Bool) (edges₀ edges : List ℕ) (size : ℕ) → follow₀ ≡ replicate 4097 false → edges₀ ≡ replicate 16388 0
-    → follow ≡ follow_to net follow₀ size → edges ≡ edges_to net follow edges₀ (4 * size)
-    → (follow ≡ follow_of net size) × (edges ≡ edges_of net size)
-loaded_graph net follow₀ follow edges₀ edges size a b marked loaded =
-    let is : follow ≡ follow_of net size = marked ∙ ap (λ (l : List Bool). follow_to net l size) a in
-    (is, loaded ∙ ap₂ (λ (f : List Bool) (l : List ℕ). edges_to net f l (4 * size)) is b)
+-- the entries by the marks, from zeros
+pub entries_loaded : (net : List ℕ) (follow : List Bool) (edges : List ℕ) (size : ℕ) → follow ≡ follow_of net size
+    → edges ≡ edges_to net follow (replicate 16388 0) (4 * size) → edges ≡ edges_of net size
+entries_loaded net follow edges size marked loaded =
+    loaded ∙ ap (λ (f : List Bool). edges_to net f (replicate 16388 0) (4 * size)) marked

@@ -21,7 +21,7 @@ unfoldable pub edges_to : List ℕ → List Bool → List ℕ → ℕ → List �
 edges_to net follow l zero = l
 edges_to net follow l (suc k) = set (edges_to net follow l k) (k + 4) (feeder_of net follow (k + 4))
 
--- the arrays that `load_graph` leaves, without a mark and an entry before it
+-- the arrays of the graph, loaded into arrays without a mark and an entry
 abbrev pub follow_of : List ℕ → ℕ → List Bool
 follow_of net size = follow_to net (replicate 4097 false) size
 

@@ -2,15 +2,14 @@
 
 #![tactic(auto)]
 
-ghost use Rattle.std.specs.Prelude.{◌≡◌, false, ◌+◌, ◌*◌, ◌<◌, ◌≤◌, eqb, replicate};
-ghost use Rattle.graph_ranks.specs.Graph.{IsGraph};
+ghost use Rattle.std.specs.Prelude.{◌≡◌, ◌+◌, ◌*◌, ◌<◌, ◌≤◌, eqb};
 ghost use Rattle.model.specs.Network.{rank_order};
 ghost use Rattle.model.specs.Netlist.{net_field};
 ghost use Rattle.file_net_graph.specs.Lines.{Lines};
 ghost use Rattle.file_net_graph.specs.Graph.{follow_to, feeder_of, edges_to, follow_of, edges_of};
 
 use file_net_line::NetLine;
-use graph_ranks::{ENTRIES, PLACES};
+use graph_ranks::{ENTRIES, Graph, PLACES};
 use netlist::Kind;
 
 // The bytes of a NET of which the lines have passed 10 to 12, and the number of its signals.
@@ -75,15 +74,20 @@ impl<'a> CheckedLines<'a> {
         }
     }
 
-    // The rank-order gates and the graph of them, into arrays without a mark and an entry, which the caller has: it cannot be handed
-    // a `Graph` of arrays made here.
-    pub fn load_graph(&self, follow: &mut [bool; PLACES], edges: &mut [u16; ENTRIES])
-        requires zeroed { (follow.old ≡ replicate 4097 false) × (edges.old ≡ replicate 16388 0) }
-        ensures follow_after { follow.new ≡ follow_of self.now.net.now self.now.size }
-        ensures edges_after { edges.new ≡ edges_of self.now.net.now self.now.size }
-        ensures graph { IsGraph follow.new edges.new self.now.size }
+    // The rank-order gates and the graph of them.
+    pub fn graph(&self) -> Graph
+        ensures follow { result.follow ≡ follow_of self.now.net.now self.now.size }
+        ensures edges { result.edges ≡ edges_of self.now.net.now self.now.size }
+        ensures size { result.size ≡ self.now.size }
     {
-        self.mark_followed(follow);
-        self.load_edges(follow, edges);
+        let mut follow = [false; PLACES];
+        let mut edges = [0; ENTRIES];
+        self.mark_followed(&mut follow);
+        self.load_edges(&follow, &mut edges);
+        Graph {
+            follow,
+            edges,
+            size: self.size,
+        }
     }
 }

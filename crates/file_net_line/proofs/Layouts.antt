@@ -2,7 +2,6 @@
 use Prim.Native.Nat.{ℕ, ◌+◌}
 use mathlib.Core.Path.{◌≡◌, refl}
 use mathlib.Core.Bool.{Bool, true, false}
-use mathlib.Core.Logic.{◌⊎◌, inl, inr}
 use mathlib.Core.List.{List}
 use native.Mathlib.Omega.{arith}
 use borrow.Author.Tests.{ne_eqb}
@@ -36,14 +35,17 @@ module _ (net : List ℕ) (s : ℕ) where
     unfolding input_layout gate_layout ◌and◌ ◌or◌
     laid_input e = rw (← is, e) (or_no (ten_zeros net s))
 
-    pub laid_gate : (kind ≡ UnitDelay) ⊎ (kind ≡ RankOrder) → laid ≡ codes
+    pub laid_unit : kind ≡ UnitDelay → laid ≡ codes
     unfolding input_layout gate_layout ◌and◌ ◌or◌
-    laid_gate (inl e) = rw (← is, e)
-    laid_gate (inr e) = rw (← is, e)
+    laid_unit e = rw (← is, e)
 
-  pub laid_none : {unknown : UnknownKind} → Decodes (net_field net s 0) (Err unknown) → laid ≡ false
+    pub laid_rank : kind ≡ RankOrder → laid ≡ codes
+    unfolding input_layout gate_layout ◌and◌ ◌or◌
+    laid_rank e = rw (← is, e)
+
+  pub laid_none : (net_field net s 0 ≡ 1 → ⊥) → (net_field net s 0 ≡ 2 → ⊥) → (net_field net s 0 ≡ 3 → ⊥) → laid ≡ false
   unfolding input_layout gate_layout ◌and◌ ◌or◌
-  laid_none is = rw (ne_eqb _ 1 is.1, ne_eqb _ 2 is.2, ne_eqb _ 3 is.3)
+  laid_none d1 d2 d3 = rw (ne_eqb _ 1 d1, ne_eqb _ 2 d2, ne_eqb _ 3 d3)
 
   module _ (number : ℕ) (is : number ≡ net_field net s 0) {r : Result Kind UnknownKind} (decoded : Decodes number r) where
     pub sources_input : r ≡ Ok Input → sources_right net s ≡ true

@@ -56,15 +56,14 @@ impl<'a> NetLine<'a> {
     }
 
     // 11: an input has ten zeros, and a gate codes that are supplied.
+    #[tactic(auto, using(crate::proofs::Layouts::laid_input, crate::proofs::Layouts::laid_unit, crate::proofs::Layouts::laid_rank, crate::proofs::Layouts::laid_none))]
     fn is_kind_laid(&self) -> bool
         ensures { result ≡ input_layout self.now.fields.bytes.now self.now.line or gate_layout self.now.fields.bytes.now self.now.line }
     {
-        let Ok(kind) = Kind::try_from(self.field(0)) else {
-            return false;
-        };
-        match kind {
-            Kind::Input => self.has_ten_zeros(),
-            Kind::UnitDelay | Kind::RankOrder => self.are_codes_supplied(),
+        match Kind::try_from(self.field(0)) {
+            Ok(Kind::Input) => self.has_ten_zeros(),
+            Ok(Kind::UnitDelay) | Ok(Kind::RankOrder) => self.are_codes_supplied(),
+            Err(_) => false,
         }
     }
 
@@ -88,6 +87,7 @@ impl<'a> NetLine<'a> {
     }
 
     // 12: the four sources of a gate.
+    #[tactic(auto, using(crate::proofs::Layouts::sources_input))]
     pub fn are_sources_right(&self, size: u16) -> bool
         requires { size ≡ net_size self.now.fields.bytes.now }
         ensures { result ≡ sources_right self.now.fields.bytes.now self.now.line }

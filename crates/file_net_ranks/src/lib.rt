@@ -7,7 +7,7 @@ ghost use Rattle.model.specs.Netlist.{network};
 ghost use Rattle.file_net_ranks.specs.Ranks.{ranks_of};
 
 use file_net_graph::CheckedLines;
-use graph_ranks::{ENTRIES, Graph, PLACES};
+use graph_ranks::PLACES;
 use netlist::Netlist;
 
 // The rank of each signal of a checked NET, at the place of its number. Linear in the signals: no chain is closed, so
@@ -17,13 +17,5 @@ pub fn rank_signals(net: &Netlist, ranks: &mut [u16; PLACES])
     ensures { ranks.new ≡ ranks_of (network net.now.net.now) }
 {
     let lines = CheckedLines::new(net.net, net.signals());
-    let mut follow = [false; PLACES];
-    let mut edges = [0u16; ENTRIES];
-    lines.load_graph(&mut follow, &mut edges);
-    let graph = Graph {
-        follow: &follow,
-        edges: &edges,
-        size: lines.size,
-    };
-    graph.rank_all(ranks);
+    lines.graph().rank_all(ranks);
 }

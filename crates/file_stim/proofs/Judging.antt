@@ -51,9 +51,7 @@ gives_signal n before here e = and_left _ _ e
 
 -- no refusal passes
 pub not_passed : (e : StimRefusal) → stim_refusal e ≡ pass → ⊥
-not_passed (Misformed line) p = pass_not_fail (sym p)
-not_passed (Layout line) p = pass_not_fail (sym p)
-not_passed (NotInput line) p = pass_not_fail (sym p)
+not_passed = grind (arith, pass_not_fail)
 
 module _ (n : Network) (stim : List ℕ) (index : ℕ) where
   abbrev before : Line

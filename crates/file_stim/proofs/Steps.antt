@@ -1,26 +1,25 @@
 -- STIM line by line. In an accepted STIM every line up to the end line can be read, and the lines before it give values.
 use Prim.Native.Nat.{ℕ, ◌+◌, ◌*◌, ◌<◌, ◌≤◌}
 use mathlib.Core.Path.{◌≡◌, sym, subst, ◌∙◌, ap}
-use mathlib.Core.Bool.{Bool, true, false, Bool-set, true≢false}
+use mathlib.Core.Bool.{true, false, Bool-set, true≢false}
 use mathlib.Core.List.{List}
 use mathlib.Core.Logic.{∥∥₁_elim}
 use native.Mathlib.Omega.{arith}
 use native.Mathlib.Decide.{ℕ_discrete}
-use lib.Dec.{eqb}
 use lib.ListN.{length}
-use borrow.Author.Tests.{eqb-true, eq-eqb}
-use Rattle.std.specs.Prelude.{Option, Some, None, MatchOption}
-use Rattle.std.specs.Bool.{then_some}
+use borrow.Author.Tests.{lt-ltb, ltb-true}
+use Rattle.std.specs.Prelude.{Option, Some, None}
+use Rattle.std.specs.Option.{is_some}
 use Rattle.fields.specs.Field.{is_field_at}
 use Rattle.fields.specs.Line.{is_line_at}
-use Rattle.model.specs.Stimulus.{stim_line, stim_time, stim_signal, stim_value, is_end, stim_count}
+use Rattle.model.specs.Stimulus.{stim_line, stim_limit, stim_time, stim_signal, stim_value, is_end, stim_count}
 use Rattle.model.proofs.Accepted.{stim_right}
 use Rattle.fields.proofs.RightLine.{line_field, line_within}
 use Rattle.file_stim.specs.declared.Line.{Line}
 use Rattle.file_stim.specs.declared.Stimulus.{Stimulus}
 use Rattle.file_stim.specs.declared.Cursor.{Cursor}
 use Rattle.file_stim.specs.Acceptance.{SomeAccepts}
-use Rattle.file_stim.specs.Stepping.{Steps, StepAt, StepOf}
+use Rattle.file_stim.specs.Stepping.{Steps, StepOf}
 
 -- what an accepted STIM gives, whatever network it is for
 module _ {stim : List ℕ} (accepted : ∥ SomeAccepts stim ∥₁) where
@@ -35,6 +34,10 @@ module _ {stim : List ℕ} (accepted : ∥ SomeAccepts stim ∥₁) where
     ∥∥₁_elim accepted (Bool-set _ _) (λ a. (stim_right a.network stim a.passes).end.line),
     ∥∥₁_elim accepted (Bool-set _ _) (λ a. (stim_right a.network stim a.passes).end.is_end_lem),
   )
+
+  -- fewer lines than the limit stand before the end line
+  pub few : stim_count stim < stim_limit
+  few = ltb-true _ _ (∥∥₁_elim accepted (Bool-set _ _) (λ a. lt-ltb _ _ (stim_right a.network stim a.passes).few))
 
   -- each line up to the end line is right
   pub line_right : {line : ℕ} → line ≤ stim_count stim → is_line_at stim (stim_line line) 3 ≡ true
@@ -62,29 +65,9 @@ time_field stim line right =
 pub line_fits : (stim : List ℕ) (line : ℕ) → is_line_at stim (stim_line line) 3 ≡ true → 19 * line + 19 ≤ length stim
 line_fits stim line right = line_within stim (19 * line) 3 right
 
--- and so does the line at a cursor
-pub cursor_fits : (c : Cursor) → 19 * c.line + 19 ≤ length c.stimulus.bytes.now
-cursor_fits c = line_fits c.stimulus.bytes.now c.line (line_right c.stimulus.accepted c.within)
-
--- a step that is kept where its time is t, by what the call of the filter says that it did
-module _ (c : Cursor) where
-  abbrev stim : List ℕ
-  stim = c.stimulus.bytes.now
-
-  pub step_filtered : (t : ℕ) (found kept : Option (Line × Cursor)) → StepAt c found → (Tested : Line × Cursor → Bool → Type 0)
-      → MatchOption found (kept ≡ None) (λ x. (b : Bool) × Tested x b × (kept ≡ then_some b x))
-      → ((x : Line × Cursor) (b : Bool) → Tested x b → b ≡ eqb x.0.time.0 t) → StepOf c t kept
-  step_filtered t found kept step Tested did tests = go found step did
-    where
-      keep : (x : Line × Cursor) → Steps c x.0 x.1 → (b : Bool) → eqb (stim_time stim c.line) t ≡ b → kept ≡ then_some b x → StepOf c t kept
-      keep x steps true now e = subst (StepOf c t) (sym e) (steps, eqb-true _ _ now)
-      keep x steps false now e = subst (StepOf c t) (sym e) (λ n q. true≢false (sym (eq-eqb _ _ q) ∙ now))
-
-      go : (found : Option (Line × Cursor)) → StepAt c found
-          → MatchOption found (kept ≡ None) (λ x. (b : Bool) × Tested x b × (kept ≡ then_some b x)) → StepOf c t kept
-      go None ends none = subst (StepOf c t) (sym none) (λ n q. true≢false (sym ends ∙ n))
-      go (Some x) steps ran =
-          keep x steps ran.0 (ap (λ (y : Line). eqb y.time.0 t) (sym steps.numbers) ∙ sym (tests x ran.0 ran.1)) ran.2
+-- fewer lines than the limit are before the line at a cursor
+pub cursor_few : (c : Cursor) → c.line < stim_limit
+cursor_few c = omega (arith, c.within, few c.stimulus.accepted)
 
 -- a line before the end line that gives a value at time t, and the line after it
 pub record GivenAt (stim : List ℕ) (t line : ℕ) (given : Line) (next : ℕ) : Type 0 where
@@ -112,3 +95,8 @@ pub none_at : {at s : Stimulus} → at ≡ s → {line t : ℕ} → (is_end at.b
 none_at {at} same {line} {t} none =
     subst (λ (y : Stimulus). line < stim_count y.bytes.now → stim_time y.bytes.now line ≡ t → ⊥) same
     (λ low q. none (given at.accepted low).1 q)
+
+-- a step of time t that gives no line
+pub gave_none : (c after : Cursor) (t : ℕ) (step : Option Line) → StepOf c after t step → is_some step ≡ false → StepOf c after t None
+gave_none c after t None told e = told
+gave_none c after t (Some line) told e = absurd (true≢false e)

@@ -12,12 +12,14 @@ pub record Steps (c : Cursor) (line : Line) (next : Cursor) : Type 0 where
   pub same : next.stimulus ≡ c.stimulus
   pub follows : next.line ≡ c.line + 1
 
--- these; none at the end line
-abbrev pub StepAt : Cursor → Option (Line × Cursor) → Type 0
-StepAt c step = MatchOption step (is_end c.stimulus.bytes.now c.line ≡ true) (λ x. Steps c x.0 x.1)
+-- these; none at the end line, and the cursor stays
+abbrev pub StepAt : Cursor → Cursor → Option Line → Type 0
+StepAt before after step =
+    MatchOption step ((is_end before.stimulus.bytes.now before.line ≡ true) × (after ≡ before)) (λ line. Steps before line after)
 
 -- the same, where the line is of time t
-abbrev pub StepOf : Cursor → ℕ → Option (Line × Cursor) → Type 0
-StepOf c t step =
-    MatchOption step (is_end c.stimulus.bytes.now c.line ≡ false → stim_time c.stimulus.bytes.now c.line ≡ t → ⊥)
-    (λ x. Steps c x.0 x.1 × (stim_time c.stimulus.bytes.now c.line ≡ t))
+abbrev pub StepOf : Cursor → Cursor → ℕ → Option Line → Type 0
+StepOf before after t step =
+    MatchOption step
+    ((is_end before.stimulus.bytes.now before.line ≡ false → stim_time before.stimulus.bytes.now before.line ≡ t → ⊥) × (after ≡ before))
+    (λ line. Steps before line after × (stim_time before.stimulus.bytes.now before.line ≡ t))

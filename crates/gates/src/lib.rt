@@ -65,7 +65,8 @@ pub fn translations() -> [u8; 28]
     table::TRANSLATIONS
 }
 
-// The tables that gates are evaluated by: made once by a caller that evaluates often, and lent by reference.
+// The tables that gates are evaluated by: made once by a caller that evaluates often, and lent by reference. They are flat, "256 a
+// function" (02), and no arrays of arrays: `translate` and `apply` alone count their indices.
 #[derive(Drop)]
 pub struct TruthTables {
     functions: [u8; 1280],
@@ -106,7 +107,7 @@ impl TruthTables {
 }
 
 impl Gate {
-    // The gate's value on four operands.
+    // The gate's value on four operands, which have the names of the formula, too.
     pub fn value(self, tables: &TruthTables, a1: u8, a2: u8, a3: u8, a4: u8) -> u8
         requires legal { Legal self }
         requires code { Code a1 × Code a2 × Code a3 × Code a4 }

@@ -5,13 +5,14 @@ use mathlib.Core.Path.{◌≡◌, refl, sym, subst, ap, ◌∙◌}
 use mathlib.Core.Bool.{Bool, true, false, true≢false}
 use mathlib.Core.List.{List, [], ◌∷◌}
 use mathlib.Core.Logic.{◌⊎◌, inl, inr, ⊎_elim}
+use native.Mathlib.Decide.{ℕ_discrete}
 use native.Mathlib.Omega.{arith}
 use native.Mathlib.Nat.{eq-or-lt_of_le}
 use lib.ListN.{length, get_or, set, replicate, length-replicate}
 use lib.Seq.{get_or-set_same, get_or-set_other}
 use Rattle.graph_ranks.specs.Graph.{places, Entries, Edge, Path, one, more, Loops, Decides}
 use Rattle.graph_chains.specs.Search.{State, state, blank, Room, pushed, pushed_to, pushed_all}
-use Rattle.graph_ranks.proofs.Stores.{equal_or_not, read_cases, all_same}
+use Rattle.graph_ranks.proofs.Stores.{read_cases, all_same}
 use Rattle.graph_chains.proofs.Unmarked.{unmarked_length}
 use Rattle.graph_chains.proofs.Pushing.{Marked, Bare, stacked, push_cases, stack_room, push_room, mark_stays, push_stays, push_marks, left_over, push_less}
 
@@ -80,14 +81,10 @@ module _ (edges : List ℕ) (size s y : ℕ) where
             (λ same. (subst (Marked (set at.marks x true)) (sym same) here, omega (arith, same)))
             (λ on. let was = i.stacked z on in (mark_stays at.marks x z low was.0, was.1));
         closed = λ z r other due.
-            ⊎_elim
-            (λ same. inr (inl same))
-            (λ old.
-            ⊎_elim
-            (λ c. inl (λ w f. mark_stays at.marks x w low (c w f)))
-            (λ on. inr (inr on))
-            (i.closed z r other (was z old due)))
-            (equal_or_not z x);
+            elim (ℕ_discrete z x) [
+              | yes same ↦ inr (inl same)
+              | no old ↦ ⊎_elim (λ c. inl (λ w f. mark_stays at.marks x w low (c w f))) (λ on. inr (inr on)) (i.closed z r other (was z old due))
+            ];
       }
         where
           low : x < length at.marks
@@ -175,7 +172,7 @@ module _ (edges : List ℕ) (size : ℕ) (all : Entries edges size) (at : State)
         sound = after.sound;
         stacked = after.stacked;
         closed = λ z real _ due.
-            ⊎_elim (λ same. inl (λ x e. mark z same x e)) (λ other. after.closed z real other due) (equal_or_not z y);
+            elim (ℕ_discrete z y) [ yes same ↦ inl (λ x e. mark z same x e) | no other ↦ after.closed z real other due ];
       }
     where
       mark : (z : ℕ) → z ≡ y → Closed edges (pushed_all edges at y).marks z

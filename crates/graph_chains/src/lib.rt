@@ -47,7 +47,7 @@ impl Search {
     #[tactic(auto, using(crate::proofs::Pushing::push_more), unfolding(crate::specs::Search::pushed_to))]
     fn push_feeders(&mut self, graph: &Graph, node: u16)
         requires { node ≤ graph.now.size }
-        ensures { state_of self.new ≡ pushed_all graph.now.edges.now (state_of self.old) node }
+        ensures { state_of self.new ≡ pushed_all graph.now.edges (state_of self.old) node }
     {
         for j in 0..4 {
             self.push(graph.feeder(node, j));
@@ -58,7 +58,7 @@ impl Search {
 // Is s on a loop? A search back from s: s is on a loop if the search comes to it.
 fn reaches_itself(graph: &Graph, s: u16) -> bool
     requires { s ≤ graph.now.size }
-    ensures { Decides (Loops graph.now.edges.now s) result }
+    ensures { Decides (Loops graph.now.edges s) result }
 {
     let mut search = Search::new();
     search.push_feeders(graph, s);
@@ -71,9 +71,9 @@ fn reaches_itself(graph: &Graph, s: u16) -> bool
 
 // Is s on a loop? What is not followed, or has a rank, is not.
 fn on_loop(graph: &Graph, ranks: &[u16; PLACES], s: u16) -> bool
-    requires ranked { Ranked graph.now.follow.now graph.now.edges.now graph.now.size ranks.now }
+    requires ranked { Ranked graph.now.follow graph.now.edges graph.now.size ranks.now }
     requires s_le_size { s ≤ graph.now.size }
-    ensures { Decides (Loops graph.now.edges.now s) result }
+    ensures { Decides (Loops graph.now.edges s) result }
 {
     let place = usize::from(s);
     ranks[place] == 0 && graph.follow[place] && reaches_itself(graph, s)
@@ -82,7 +82,7 @@ fn on_loop(graph: &Graph, ranks: &[u16; PLACES], s: u16) -> bool
 // The smallest node that is on a loop, if one is. Ranks decide most graphs at once; only what has none is searched
 // from. Below size + 1 and not up to size: the library's law of `find` is of a half-open range.
 pub fn first_loop(graph: &Graph) -> Option<u16>
-    ensures { FirstLoop graph.now.edges.now graph.now.size result }
+    ensures { FirstLoop graph.now.edges graph.now.size result }
 {
     let mut ranks = [0u16; PLACES];
     graph.rank_all(&mut ranks);

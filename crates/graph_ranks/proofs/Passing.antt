@@ -17,7 +17,7 @@ use Rattle.graph_ranks.proofs.Ranking.{rank_small, store_so_far}
 module _ (g : Graph) where
   -- y, whose place it is, gets the rank h
   pub visit_new : {ranks : List ℕ} → SomeRanked g ranks → (y place h : ℕ) → place ≡ y → (1 ≤ y) × (y ≤ g.size)
-      → get_or g.follow.now place false ≡ true → get_or ranks place 0 ≡ 0 → RankAbove g.edges.now ranks y 4 h
+      → get_or g.follow place false ≡ true → get_or ranks place 0 ≡ 0 → RankAbove g.edges ranks y 4 h
       → Visited g y ranks (set ranks place h) true
   visit_new {ranks} s y place h here node marked bare above = rw here (record {
     so_far = store_so_far s y h g.is_graph.each.small followed unranked above;
@@ -29,12 +29,12 @@ module _ (g : Graph) where
       unranked : get_or ranks y 0 ≡ 0
       unranked = rw here at bare
 
-      followed : Followed g.follow.now g.size y
+      followed : Followed g.follow g.size y
       followed = record { low = node.0; high = node.1; chosen = rw here at marked }
 
   -- a pass ranked none
   pub all_ranked : {before ranks : List ℕ} {gained : Bool} → Passed g (g.size + 1) before ranks gained → gained ≡ false
-      → Ranked g.follow.now g.edges.now g.size ranks
+      → Ranked g.follow g.edges g.size ranks
   all_ranked p e = record {
     right = p.so_far.right;
     rest = λ y f. p.still e y (omega (arith, f.high)) f;

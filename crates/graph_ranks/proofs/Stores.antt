@@ -3,30 +3,21 @@ use Prim.Native.Nat.{ℕ, zero, suc, ◌+◌, ◌<◌}
 use mathlib.Core.Path.{◌≡◌, refl, sym, subst}
 use mathlib.Core.Bool.{Bool, true, false}
 use mathlib.Core.List.{List}
-use mathlib.Core.Logic.{◌⊎◌, inl, inr, ⊎_elim}
 use native.Mathlib.Omega.{arith}
-use lib.Dec.{eqb}
+use native.Mathlib.Decide.{ℕ_discrete}
 use lib.ListN.{length, get_or, set, replicate}
 use lib.Seq.{get_or-set_same, get_or-set_other}
-use borrow.Author.Tests.{eqb-true, eqb-false}
 use Rattle.logic.specs.Test.{count}
 use Rattle.logic.proofs.Counts.{count_set}
-
-pub equal_or_not : (a b : ℕ) → (a ≡ b) ⊎ (a ≡ b → ⊥)
-equal_or_not a b = go (eqb a b) refl
-  where
-    go : (t : Bool) → eqb a b ≡ t → (a ≡ b) ⊎ (a ≡ b → ⊥)
-    go true e = inl (eqb-true a b e)
-    go false e = inr (eqb-false a b e)
 
 -- the new element at the place of the store, the old one elsewhere
 pub read_cases : {A : Type 0} (P : ℕ → A → Type 0) (l : List A) (i : ℕ) (v d : A) → i < length l → P i v
     → (j : ℕ) → ((j ≡ i → ⊥) → P j (get_or l j d)) → P j (get_or (set l i v) j d)
 read_cases P l i v d h new j old =
-    ⊎_elim
-    (λ e. subst (λ (k : ℕ). P k (get_or (set l i v) k d)) (sym e) (subst (P i) (sym (get_or-set_same l i v d h)) new))
-    (λ e. subst (P j) (sym (get_or-set_other l i j v d e)) (old e))
-    (equal_or_not j i)
+    elim (ℕ_discrete j i) [
+      | yes e ↦ subst (λ (k : ℕ). P k (get_or (set l i v) k d)) (sym e) (subst (P i) (sym (get_or-set_same l i v d h)) new)
+      | no e ↦ subst (P j) (sym (get_or-set_other l i j v d e)) (old e)
+    ]
 
 pub all_same : {A : Type 0} (a : A) (n i : ℕ) → get_or (replicate n a) i a ≡ a
 all_same a zero i = refl

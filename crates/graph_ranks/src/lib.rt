@@ -22,36 +22,37 @@ const STEPS: usize = 12288;
 
 const WAY: usize = 16384;
 
-// A graph of the nodes 1 to `size`: those that are followed are marked, and the edges are four entries a node.
-#[derive(Clone, Copy)]
-pub struct Graph<'a> {
-    pub follow: &'a [bool; PLACES],
-    pub edges: &'a [u16; ENTRIES],
+// A graph of the nodes 1 to `size`: those that are followed are marked, and the edges are four entries a node, flat, as the definitions
+// read them.
+#[derive(Drop)]
+pub struct Graph {
+    pub follow: [bool; PLACES],
+    pub edges: [u16; ENTRIES],
     pub size: u16,
-    pub ghost is_graph: { IsGraph follow.now edges.now size },
+    pub ghost is_graph: { IsGraph follow edges size },
 }
 
-impl<'a> Graph<'a> {
+impl Graph {
     ghost use Rattle.graph_ranks.specs.Methods.{SomeRanked, Visited, Passed, Descended};
 
     // The feeder that entry j of the node names, or 0 for none, as the entry has it: an Option would be made here and taken
     // apart at once, and no caller would lose its test.
     pub fn feeder(&self, node: u16, j: usize) -> u16
         requires within { (node ≤ self.now.size) × (j < 4) }
-        ensures named { result ≡ get_or self.now.edges.now (4 * node + j) 0 }
+        ensures named { result ≡ get_or self.now.edges (4 * node + j) 0 }
         ensures node_or_none { result ≤ self.now.size }
     {
         self.edges[4 * usize::from(node) + j]
     }
 
     // The rank above the feeders of the node, where each has one. What holds of the ranks so far is asked of each caller: they are lent,
-    // and change from call to call. A loop with a skip and a way out: `try_fold` would make an Option a turn for the rank
-    // so far, and skip by giving it back.
+    // and change from call to call. A loop with a skip and a way out: by `filter` and `try_fold` each turn would make
+    // an Option of the rank so far.
     #[tactic(auto, using(crate::proofs::Ranking::ground, crate::proofs::Ranking::above_start, crate::proofs::Ranking::above_none, crate::proofs::Ranking::above_more))]
     fn rank_above(&self, ranks: &[u16; PLACES], node: u16) -> Option<u16>
         requires ranked_so_far { SomeRanked self.now ranks.now }
         requires node_le_size { node ≤ self.now.size }
-        ensures { MatchOption result (OpenFeeder self.now.edges.now ranks.now node) (RankAbove self.now.edges.now ranks.now node 4) }
+        ensures { MatchOption result (OpenFeeder self.now.edges ranks.now node) (RankAbove self.now.edges ranks.now node 4) }
     {
         let mut rank: u16 = 1;
         for j in 0..4 {
@@ -92,9 +93,7 @@ impl<'a> Graph<'a> {
     {
         let mut some = false;
         for node in 1..=self.size {
-            if self.visit(ranks, node) {
-                some = true;
-            }
+            some |= self.visit(ranks, node);
         }
         some
     }
@@ -102,7 +101,7 @@ impl<'a> Graph<'a> {
     // A feeder of the node that has no rank.
     fn open_feeder(&self, ranks: &[u16; PLACES], node: u16) -> Option<u16>
         requires node_le_size { node ≤ self.now.size }
-        ensures { MatchOption result (OpenFeeder self.now.edges.now ranks.now node → ⊥) (OpenAt self.now.edges.now ranks.now node) }
+        ensures { MatchOption result (OpenFeeder self.now.edges ranks.now node → ⊥) (OpenAt self.now.edges ranks.now node) }
     {
         (0..4)
             .map(|j| self.feeder(node, j))
@@ -156,11 +155,12 @@ impl<'a> Graph<'a> {
         }
     }
 
-    // The rank of every node that has one, and 0, in a fixed array, for the others (an array of Options would be twice as
-    // long): by a descent, which is quick, and then by passes over the nodes until one ranks none, which is sure.
+    // The rank of every node that has one, and 0, in a fixed array, for the others (an array of Options would be twice as long): by a
+    // descent, which is quick, and then by passes over the nodes until one ranks none, which is sure. The array is lent: handed out, it
+    // takes its 8 KB twice of the stack, which is counted (docs/PANEL.md).
     #[tactic(auto, using(crate::proofs::Passing::all_ranked))]
     pub fn rank_all(&self, ranks: &mut [u16; PLACES])
-        ensures { Ranked self.now.follow.now self.now.edges.now self.now.size ranks.new }
+        ensures { Ranked self.now.follow self.now.edges self.now.size ranks.new }
     {
         ranks.fill(0);
         self.rank_deep(ranks);

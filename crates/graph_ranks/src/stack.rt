@@ -5,7 +5,7 @@ ghost use Rattle.graph_ranks.specs.Held.{held};
 
 use std::marker::Model;
 
-/// A stack of at most `N` numbers.
+/// A stack of at most `N` numbers. The library's `ArrayVec` has its top last, where every definition of a way or a search begins with it.
 #[derive(Drop)]
 pub struct Stack<const N: usize> {
     items: [u16; N],

@@ -11,7 +11,7 @@ const NO_SENDER: u8 = 99;
 
 // What a pair of a table line names: a location of one of the four parts, in the order of their numbers, or none. None keeps the
 // pair's location, so that the location of an operand is read without asking which one it is.
-#[derive(Clone, Copy)]
+#[derive(Clone, Copy, Debug, PartialEq, Eq)]
 pub enum Operand {
     LocalEarlier(u8),
     LocalPresent(u8),
@@ -67,11 +67,7 @@ pub fn operand_of(part: u16, location: u8) -> Operand
 pub fn sender_numbered(number: u8) -> Option<u8>
     ensures { result ≡ sender_numbered number }
 {
-    if number == NO_SENDER {
-        None
-    } else {
-        Some(number)
-    }
+    (number != NO_SENDER).then_some(number)
 }
 
 // "processors below P", or none. The number is judged here, and so is no `Option` yet.

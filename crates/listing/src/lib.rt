@@ -72,9 +72,10 @@ pub fn piece_count(end: Cycle) -> u32
 }
 
 impl<'a> Lister<'a> {
-    // The next piece: time 0; or the settings of the next time, one cycle and its changes; or the last line. How many pieces were given says
-    // which. The definition goes by these three cases of one count (`piece_at`), and a closure for each would say no more.
-    // The buffers are lent at each step, some to be read and some to be written: there is no heap, and they are the caller's.
+    // The next piece: time 0; or the settings of the next time, one cycle and its changes; or the last line. How many pieces were given
+    // says which. The definition goes by these three cases of one count (`piece_at`), and a closure for each would say no more.
+    // The buffers are lent at each step: what it promises (`Stands`, `Gives`) is of their bytes, which a `Lister` with the buffers in it
+    // would hide.
     // By `as`, in this file, where the bound is proved: no `From` has this conversion, and `TryFrom` has an error that cannot happen.
     pub fn step(
         self,
@@ -107,13 +108,14 @@ impl<'a> Lister<'a> {
             let lister = Lister { pieces: 1, ..self };
             return Piece { lister, length };
         }
-        let settled = listing_cycle::take_settings(self.session, self.cursor, time, panel);
+        let mut cursor = self.cursor;
+        let session = listing_cycle::take_settings(self.session, &mut cursor, time, panel);
         let machine = Machine::new(tables, panel, program);
-        let session = listing_cycle::run_one(settled.session, &machine, memory);
+        let session = listing_cycle::run_one(session, &machine, memory);
         let length = listing_cycle::write_changes(time, &Readable { panel, memory }, shown, out);
         let lister = Lister {
             session,
-            cursor: settled.cursor,
+            cursor,
             pieces: self.pieces + 1,
             ..self
         };

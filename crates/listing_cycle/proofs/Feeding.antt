@@ -211,15 +211,6 @@ pub record Skipped (stim : List ℕ) (line : ℕ) : Type 0 where
   pub few : line ≤ stim_count stim
   pub earlier : (k : ℕ) → k < line → stim_time stim k ≤ 0
 
-pub skipped_more : {stim : List ℕ} {line : ℕ} {given : Line} {next : ℕ} → Skipped stim line → GivenAt stim 0 line given next
-    → Skipped stim next
-skipped_more {stim} {line} {next = next} so_far g =
-    record { few = omega (arith, g.before_end, g.follows); earlier = λ k l. at k l (ℕ_discrete k line) }
-  where
-    at : (k : ℕ) → k < next → Dec (k ≡ line) → stim_time stim k ≤ 0
-    at k l (yes q) = rw q (omega (arith, g.time_is))
-    at k l (no d) = so_far.earlier k (omega (arith, g.follows))
-
 -- up to the first later one
 pub skipped_ends : {stim : List ℕ} {line : ℕ} → Skipped stim line → (line < stim_count stim → stim_time stim line ≡ 0 → ⊥) → Passed stim 0 line
 skipped_ends so_far other = record { few = so_far.few; earlier = so_far.earlier; later = λ h. omega (arith, other h) }

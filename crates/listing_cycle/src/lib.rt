@@ -26,15 +26,7 @@ pub type Shown = [u8; 4097];
 // The lines of a piece, a line of each signal at most.
 pub type PieceLines = [u8; 77824];
 
-// A session that has its settings for a cycle, and the line of STIM after them.
-#[derive(Clone, Copy)]
-pub struct Settled<'a> {
-    pub session: Session,
-    pub cursor: Cursor<'a>,
-}
-
-// The line of a signal, where its value is not the one last shown; the place after it. Numbers are widened by `as`: by `From`, the proofs
-// of the answers did not close.
+// The line of a signal, where its value is not the one last shown; the place after it.
 fn write_change(
     time: Cycle,
     signal: u16,
@@ -48,13 +40,13 @@ fn write_change(
     ensures out_after { out.new ≡ sets out.old at (change_line time.0 signal value (get_or shown.old signal 0)) }
     ensures shown_after { shown.new ≡ set shown.old signal value }
 {
-    let last = shown[signal as usize];
-    shown[signal as usize] = value;
+    let index = usize::from(signal);
+    let last = shown[index];
+    shown[index] = value;
     if value == last {
         return at;
     }
-    let number = time.0;
-    writing::write_line(out, at, &[number, signal, value as u16])
+    writing::write_line(out, at, &[time.0, signal, u16::from(value)])
 }
 
 // "each whose value differs from the time before, by time and signal". Before time 0 no value is shown, so that all differ.
@@ -85,9 +77,7 @@ pub fn first_later(stim: Stimulus) -> Cursor
         stimulus: stim,
         line: 0,
     };
-    while let Some((_, next)) = cursor.next_of(Cycle(0)) {
-        cursor = next;
-    }
+    'lines: while cursor.next_of(Cycle(0)).is_some() {}
     cursor
 }
 
@@ -105,27 +95,25 @@ pub fn end_time(stim: Stimulus, lines: u16) -> Cycle
     last.here().time
 }
 
-// The settings of a time, each an accepted command of the session, which writes its value into the panel.
-pub fn take_settings<'a>(
+// The settings of a time, each an accepted command of the session, which writes its value into the panel. The cursor goes on behind them.
+pub fn take_settings(
     session: Session,
-    cursor: Cursor<'a>,
+    cursor: &mut Cursor,
     time: Cycle,
     panel: &mut Panel,
-) -> Settled<'a>
+) -> Session
     requires signals_high { signals_in panel.old ≤ 4096 }
-    ensures same_stimulus { result.cursor.stimulus ≡ cursor.entry.stimulus }
-    ensures fed { Fed cursor.entry.stimulus.bytes.now panel.old time.0 cursor.entry.line panel.new result.cursor.line }
-    ensures no_more { result.cursor.line < stim_count cursor.entry.stimulus.bytes.now → stim_time cursor.entry.stimulus.bytes.now result.cursor.line ≡ time.0 → ⊥ }
-    ensures same_numbers { SameNumbers session result.session }
+    ensures same_stimulus { cursor.new.stimulus ≡ cursor.old.stimulus }
+    ensures fed { Fed cursor.old.stimulus.bytes.now panel.old time.0 cursor.old.line panel.new cursor.new.line }
+    ensures no_more { cursor.new.line < stim_count cursor.old.stimulus.bytes.now → stim_time cursor.old.stimulus.bytes.now cursor.new.line ≡ time.0 → ⊥ }
+    ensures same_numbers { SameNumbers session result }
 {
     let mut session = session;
-    let mut cursor = cursor;
-    while let Some((line, next)) = cursor.next_of(time) {
+    while let Some(line) = cursor.next_of(time) {
         let told = session.set(panel, u32::from(line.signal), u32::from(line.value));
         session = told.session;
-        cursor = next;
     }
-    Settled { session, cursor }
+    session
 }
 
 // One cycle with the values in hand: "run k cycles" with k = 1 and a mask that watches nothing.

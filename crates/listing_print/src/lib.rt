@@ -9,15 +9,17 @@ ghost use Rattle.file_bytes.specs.Bytes.{bytes_of};
 ghost use Rattle.file_checks.specs.Answer.{file_refusal};
 ghost use Rattle.listing_print.specs.Handing.{unprinted, part_at, part_count, parts_of, Handing};
 
-use buffers_memory::MEMORY_BYTES;
-use buffers_tables::{PANEL_BYTES, PROGRAM_BYTES};
+use buffers_memory::Memory;
+use buffers_tables::{Panel, Program};
 use file_bytes::FileBytes;
 use file_checks::FileRefusal;
 use gates::TruthTables;
+use listing_cycle::{PieceLines, Shown};
 
 // How many parts are written of what is printed. The writer takes it by value and gives it back, one more, only for a part that was
 // written: it is never copied, so that no part is handed over twice, and none after one that could not be written. That nothing was printed
-// before is asked of it by all who print.
+// before is asked by all who print: `main` makes the one count, and a type for it would be taken apart in `put`. Runtime and files are
+// lent beside it at each call, since it is made before a file is read.
 #[derive(Drop)]
 pub struct Printed {
     pub parts: u32,
@@ -42,10 +44,9 @@ impl Printed {
         requires parts_bound { self.parts < part_count (bytes_of files.now) }
         ensures counted { MatchResult result (λ printed. printed.parts ≡ self.parts + 1) (λ cut. cut.parts ≡ self.parts) }
     {
-        match rt.write_all(part) {
-            Ok(()) => self.parts += 1,
-            Err(_) => return Err(CutShort { parts: self.parts }),
-        }
+        rt.write_all(part)
+            .map_err(|_| CutShort { parts: self.parts })?;
+        self.parts += 1;
         Ok(self)
     }
 }
@@ -87,11 +88,11 @@ pub fn print_listing(
     ensures handed { Handing (bytes_of files.now) (parts_of result) (is_err result) }
 {
     let tables = TruthTables::new();
-    let mut panel = zeroed::<PANEL_BYTES>();
-    let mut program = zeroed::<PROGRAM_BYTES>();
-    let mut memory = zeroed::<MEMORY_BYTES>();
-    let mut shown = [0; 4097];
-    let mut piece = zeroed::<77824>();
+    let mut panel: Panel = zeroed();
+    let mut program: Program = zeroed();
+    let mut memory: Memory = zeroed();
+    let mut shown: Shown = zeroed();
+    let mut piece: PieceLines = zeroed();
     let mut lister = listing::open(
         files,
         lines,

@@ -1,8 +1,9 @@
 -- Judgements joined by `and`, as code makes them: it stops at the first that fails, and else goes on.
 use mathlib.Core.Path.{◌≡◌, refl, sym}
 use mathlib.Core.Bool.{Bool, true, false, not}
-use borrow.Author.Tests.{eq-eqb, ne_eqb, lt-ltb, le-ltb, le-leb, lt-leb, not-true, not-false}
+use borrow.Author.Tests.{not-true, not-false}
 use Rattle.logic.specs.Test.{◌and◌, ◌or◌}
+use Rattle.logic.proofs.Tests.{decided}
 
 pub and_false : (a : Bool) → a and false ≡ false
 unfolding ◌and◌
@@ -71,4 +72,4 @@ unfolding ◌or◌
 or_when_false b = refl
 
 -- a test by cases of the code
-pub ruleset connected = (eq-eqb, ne_eqb, lt-ltb, le-ltb, le-leb, lt-leb, and_when_true, and_when_false, or_when_true, or_when_false)
+pub ruleset connected = (decided, and_when_true, and_when_false, or_when_true, or_when_false)

@@ -4,7 +4,7 @@ use Rattle.model.specs.Machine.{Memory, cycle}
 use Rattle.model.specs.Session.{Watch, Run, runs, watched}
 use Rattle.buffers_tables.specs.Panel.{processors_in, slots_in, hand_in, processor_in, slot_in}
 use Rattle.buffers_tables.specs.Tables.{network_in, module_in}
-use Rattle.machine_run.specs.declared.Watch.{Watch as CarriedWatch}
+use Rattle.buffers_tables.specs.declared.Watch.{Watch as CarriedWatch}
 
 -- one cycle, "fed the input values that the session holds for its next cycle"
 abbrev pub cycle_in : List ℕ → List ℕ → Memory → Memory

@@ -12,17 +12,10 @@ ghost use Rattle.machine_slot.specs.Held.{network_of, module_of, hands_of};
 ghost use Rattle.machine_run.specs.Running.{cycle_in, value_in, watch_of, run_in, Watching};
 
 use buffers_memory::Memory;
-use buffers_tables::Panel;
+use buffers_tables::{Panel, Watch};
 use clock::{Cycle, Ran, Slot};
 use instruction::Operand;
 use machine_slot::Machine;
-
-// "the one watch": its signal, and the mask of the values that it watches.
-#[derive(Clone, Copy)]
-pub struct Watch {
-    pub signal: u16,
-    pub mask: u8,
-}
 
 // A panel whose signals have their places in the machine, and the memory that holds their values. The panel's length is a field, since a
 // proof does not take it from the type of a field.
@@ -93,6 +86,7 @@ pub fn run(machine: &Machine, memory: &mut Memory, watch: Watch, cycles: Cycle) 
     requires memory_bytes { MemoryBytes memory.old }
     ensures { (result.done.0 ≡ (run_in machine.now.panel.now machine.now.program.now (watch_of watch) cycles.0 (memory_of memory.old)).count) × (result.stopped ≡ (run_in machine.now.panel.now machine.now.program.now (watch_of watch) cycles.0 (memory_of memory.old)).stopped) × (memory.new ≡ with_memory (processors_in machine.now.panel.now) (slots_in machine.now.panel.now) (run_in machine.now.panel.now machine.now.program.now (watch_of watch) cycles.0 (memory_of memory.old)).state memory.old) }
 {
+    // From 0, as the definitions count the cycles done before one (`ticks`).
     for before in 0..cycles.0 {
         run_cycle(machine, memory);
         if shows(watch.mask, value_of(machine.panel, memory, watch.signal)) {

@@ -13,11 +13,11 @@ ghost use Rattle.machine_slot.specs.Single.{tables_single};
 ghost use Rattle.buffers_tables.specs.Tables.{Tables};
 ghost use Rattle.machine_slot.specs.Storing.{gate_on, evaluated_on, evaluated, FirstAre, storing, stored_if, received_stored, passed};
 
-use buffers_memory::{LOCAL_PRESENT, Memory, SWITCH_PRESENT};
+use buffers_memory::Memory;
 use buffers_tables::{Panel, Program};
 use clock::Slot;
 use gates::TruthTables;
-use instruction::Instruction;
+use instruction::{Instruction, Operand};
 
 // What a run lends to every slot, and no slot changes: the tables of the gates, the panel and the program, which are in range, and
 // the numbers of processors and slots that the panel has. Its methods take a processor and a slot, and no struct of the two, as MOD's
@@ -89,7 +89,8 @@ impl<'a> Machine<'a> {
     }
 
     // "every processor fetches first": what each stores locally and what it sends. What it sends is fetched before its gate is
-    // evaluated, and so is not kept meanwhile.
+    // evaluated, and so is not kept meanwhile. By the processor's number, which the calls take: of what a zip of two `iter_mut` wrote, a
+    // proof knows nothing.
     fn fetch_all(&self, memory: &Memory, slot: Slot, results: &mut [u8; 16], sent: &mut [u8; 16])
         requires memory_bytes { MemoryBytes memory.now }
         requires slot_bound { slot.0 < slots_in self.now.panel.now }
@@ -145,12 +146,18 @@ impl<'a> Machine<'a> {
 }
 
 // The result "goes to local location i", in the present half. "An empty slot stores no local value".
+// By `as`, in this file, where the bound is proved: no `From` has this conversion, and `TryFrom` has an error that cannot happen.
 fn store_result(signal: u16, processor: usize, slot: Slot, value: u8, memory: &mut Memory)
     requires { (processor < 16) × (slot.0 < 256) }
     ensures { memory.new ≡ stored_if (not (eqb signal 0)) memory.old (place processor local_present slot.0) value }
 {
     if signal != 0 {
-        buffers_memory::store(memory, processor, LOCAL_PRESENT, usize::from(slot.0), value);
+        buffers_memory::store(
+            memory,
+            processor,
+            Operand::LocalPresent(slot.0 as u8),
+            value,
+        );
     }
 }
 
@@ -170,8 +177,7 @@ fn store_received(
         buffers_memory::store(
             memory,
             processor,
-            SWITCH_PRESENT,
-            usize::from(slot.0),
+            Operand::SwitchPresent(slot.0 as u8),
             sent[usize::from(sender)],
         );
     }

@@ -8,8 +8,7 @@ use mathlib.Core.Logic.{⊎_elim}
 use borrow.Author.Tests.{leb-true, le-leb}
 use Rattle.logic.proofs.Tests.{and_left, and_right, and_true}
 use Rattle.logic.proofs.Judged.{connected}
-use Rattle.std.specs.Prelude.{Result, Ok, Err}
-use Rattle.std.specs.Result.{result_unwrap_or}
+use Rattle.std.specs.Prelude.{Result, Ok, Err, IsOk}
 use Rattle.fields.specs.Line.{is_line_at}
 use Rattle.model.specs.Refusal.{pass}
 use Rattle.model.specs.Network.{is_signal}
@@ -20,7 +19,7 @@ use Rattle.model.proofs.Refusals.{first_left, first_right, first_both, unless_tr
 use Rattle.model.proofs.Checked.{panel_few, checked_accepted, checked_size, checked_signal, checked_line}
 use Rattle.netlist.specs.declared.kind.Kind.{Kind}
 use Rattle.netlist.specs.declared.kind.UnknownKind.{UnknownKind}
-use Rattle.netlist.specs.Kind.{code_of, Decodes}
+use Rattle.netlist.specs.Kind.{Decodes}
 
 module _ (net : List ℕ) (checked : Checked net) where
   header_passes : net_header checked.limit net ≡ pass → net_header panel_limit net ≡ pass
@@ -56,15 +55,19 @@ module _ (net : List ℕ) (accepted : net_check panel_limit net ≡ pass) where
     high = leb-true _ _ (and_right _ _ signal)
 
     -- the number of a signal's kind names one
-    pub kind_named : (r : Result Kind UnknownKind) → Decodes (net_field net s 0) r → (other : Kind) → code_of (result_unwrap_or r other) ≡ (network net).kind s
+    pub kind_named : (r : Result Kind UnknownKind) → Decodes (net_field net s 0) r → IsOk r
     unfolding network
-    kind_named (Ok kind) decoded other = decoded
-    kind_named (Err unknown) decoded other =
+    kind_named (Ok kind) decoded = refl
+    kind_named (Err unknown) decoded =
         absurd (⊎_elim decoded.1 (⊎_elim decoded.2 decoded.3) (checked_signal net checked s (record { low = low; high = high })).kind)
 
 pub size_is : (net : List ℕ) → (network net).size ≡ net_size net
 unfolding network
 size_is net = refl
+
+pub kind_is : (net : List ℕ) (s : ℕ) → net_field net s 0 ≡ (network net).kind s
+unfolding network
+kind_is net s = refl
 
 pub source_is : (net : List ℕ) (s j : ℕ) → net_field net s (8 + j) ≡ (network net).source s j
 unfolding network

@@ -54,7 +54,7 @@ impl<'a> Netlist<'a> {
     pub fn is_signal(&self, s: u16) -> bool
         ensures { result ≡ is_signal (network self.now.net.now) s }
     {
-        1 <= s && s <= self.signals()
+        (1..=self.signals()).contains(&s)
     }
 
     // The kind of a signal, the first field of its line. No other number stands there in a NET that is checked.
@@ -62,7 +62,7 @@ impl<'a> Netlist<'a> {
         requires { is_signal (network self.now.net.now) s ≡ true }
         ensures { code_of result ≡ (network self.now.net.now).kind s }
     {
-        Kind::try_from(self.field(s, 0)).unwrap_or(Kind::Input)
+        Kind::try_from(self.field(s, 0)).unwrap()
     }
 
     pub fn is_input(&self, s: u16) -> bool
@@ -78,9 +78,6 @@ impl<'a> Netlist<'a> {
         requires { (is_signal (network self.now.net.now) s ≡ true) × (j < 4) }
         ensures { result ≡ numbered ((network self.now.net.now).source s j) }
     {
-        match self.field(s, 8 + j) {
-            0 => None,
-            source => Some(source),
-        }
+        fields::numbered(self.field(s, 8 + j))
     }
 }

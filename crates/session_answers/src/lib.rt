@@ -15,7 +15,7 @@ use file_lines::Refusal;
 use std::array::TryFromSliceError;
 
 // The refusals of the session's calls (01, Refusals): 40, 44, 41, 42 and 43, with what they return.
-#[derive(Clone, Copy)]
+#[derive(Clone, Copy, Debug, PartialEq, Eq)]
 pub enum CallRefusal {
     WrongLength,
     OutOfRange,
@@ -78,7 +78,7 @@ pub fn check_recorded(values: &[u8]) -> Result<(), NoSuchValue>
 }
 
 // What a call replies that is not refused: that it is done, the value read, or the cycles of a run and whether it stopped.
-#[derive(Clone, Copy)]
+#[derive(Clone, Copy, Debug, PartialEq, Eq)]
 pub enum Reply {
     Done,
     Value(u8),

@@ -93,7 +93,8 @@ fn run_in(panel: &mut Panel, program: &Program, memory: &mut Memory, cycles: u32
 }
 
 // The four calls stay apart: they are four entries for C, and each is lent other buffers to write. The arrays that `readiness` makes are
-// not handed on, since it shares all three and a call then writes some: each makes those that it needs.
+// not handed on, since it shares all three and a call then writes some: each makes those that it needs. It unwraps them, since `readiness`
+// says that their lengths are right: by `ok_or` and `?` there would be an error that cannot happen.
 
 // Set an input for the next cycle. Refused by 40, 44, 41, 42, in this order.
 pub fn set(panel: &mut [u8], program: &[u8], memory: &[u8], signal: u32, value: u32) -> u64

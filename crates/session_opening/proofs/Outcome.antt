@@ -1,13 +1,13 @@
 -- The opening's check: a wrong length refuses, else the files decide; and what a refused and an accepted opening answer and leave.
 use Prim.Native.Nat.{ℕ}
-use mathlib.Core.Path.{◌≡◌, sym, ◌∙◌, ap}
+use mathlib.Core.Path.{◌≡◌, refl, sym, ◌∙◌, ap}
 use mathlib.Core.Bool.{true, false}
 use mathlib.Core.List.{List}
 use lib.ListN.{length}
 use Rattle.model.specs.Refusal.{Check, pass, fail, first, unless}
 use Rattle.model.specs.Files.{Files}
 use Rattle.model.specs.Acceptance.{panel_limit, file_check}
-use Rattle.model.specs.Session.{Lengths, same_lengths, refused}
+use Rattle.model.specs.Session.{Lengths, same_lengths}
 use Rattle.buffers_lengths.specs.Lengths.{fixed}
 use Rattle.session_answers.specs.Answers.{answer_bits, check_bits}
 use Rattle.file_checks.specs.Answer.{file_refusal}
@@ -33,14 +33,10 @@ module _ (files : Files) (r : Result (Unit {0}) FileRefusal) (is : answered file
   pub files_refused : {e : FileRefusal} → r ≡ Err e → file_check panel_limit files ≡ file_refusal e
   files_refused e = sym is ∙ ap (answered file_refusal) e
 
-module _ {check : Check} {number returned : ℕ} (e : check ≡ fail number returned) where
-  pub refused_bits : answer_bits (refused number returned) ≡ check_bits check
-  unfolding check_bits
-  refused_bits = rw e
-
-  pub refused_left : (bytes lent : List ℕ) → cleared (length lent) ≡ left_by check bytes lent
-  unfolding left_by
-  refused_left bytes lent = rw e
+pub refused_left : (check : Check) → (check ≡ pass → ⊥) → (left bytes lent : List ℕ) → left ≡ cleared (length lent) → left ≡ left_by check bytes lent
+unfolding left_by
+refused_left pass fails left bytes lent is = absurd (fails refl)
+refused_left (fail number returned) fails left bytes lent is = is
 
 module _ {check : Check} (e : check ≡ pass) where
   pub accepted_bits : 0 ≡ check_bits check

@@ -12,9 +12,9 @@ ghost use Rattle.session_state.specs.Carried.{head_of};
 ghost use Rattle.session_state.specs.Commands.{signal_in, input_in, commanded, Tells};
 
 use buffers_memory::Memory;
-use buffers_tables::Panel;
+use buffers_tables::{Panel, Watch};
 use clock::Cycle;
-use machine_run::{Readable, Watch};
+use machine_run::Readable;
 use machine_slot::Machine;
 use session_answers::{CallAnswer, CallRefusal, Reply};
 
@@ -25,7 +25,7 @@ pub struct Session {
     pub watch: Watch,
 }
 
-// What a command answers, and the new session.
+// What a command answers, and the new session. Refused or not it hands a session back (01, Where each language form goes), so not by `?`.
 #[derive(Clone, Copy)]
 pub struct Told {
     pub session: Session,
@@ -37,24 +37,22 @@ pub fn decode(panel: &Panel) -> Session
     ensures { (head_of result panel.now ≡ head_in panel.now) × (with_head (head_in panel.now) panel.now ≡ panel.now) }
 {
     Session {
-        finished: Cycle(buffers_tables::finished(panel)),
-        watch: Watch {
-            signal: buffers_tables::watched(panel),
-            mask: buffers_tables::mask(panel),
-        },
+        finished: buffers_tables::finished(panel),
+        watch: buffers_tables::watched(panel),
     }
 }
 
 // A signal of the network: 1 to N. `Netlist` has the same test on NET's bytes, which are not there when a call is made. That N is at most
-// 4096 is asked of the panel where a byte of a signal is read or written: its bytes are lent by C, and 44 judged them.
+// 4096 is asked of the panel by each command: 44 judged the bytes that C lends, and a setting writes them.
 #[tactic(auto, using(logic::proofs::Judged::connected), unfolding(crate::specs::Commands::signal_in))]
 fn is_signal(panel: &Panel, signal: u32) -> bool
     ensures { result ≡ signal_in panel.now signal }
 {
-    signal != 0 && signal <= u32::from(buffers_tables::signals(panel))
+    (1..=u32::from(buffers_tables::signals(panel))).contains(&signal)
 }
 
-// An input of the network: "setting a gate" is refused. The kind is compared as the byte that the panel has for C and that 44 judged.
+// An input of the network: "setting a gate" is refused. The kind is compared as the panel's byte, which 44 judged: a `Kind` would be
+// made of it and taken apart at once.
 // By `as`, in this file, where the bound is proved: no `From` has this conversion, and `TryFrom` has an error that cannot happen.
 #[tactic(auto, using(logic::proofs::Judged::connected), unfolding(crate::specs::Commands::input_in))]
 fn is_input(panel: &Panel, signal: u32) -> bool
@@ -69,8 +67,8 @@ impl Session {
     pub fn encode(self, panel: &mut Panel)
         ensures { panel.new ≡ with_head (head_of self panel.old) panel.old }
     {
-        buffers_tables::set_finished(panel, self.finished.0);
-        buffers_tables::set_watch(panel, self.watch.signal, self.watch.mask);
+        buffers_tables::set_finished(panel, self.finished);
+        buffers_tables::set_watch(panel, self.watch);
     }
 
     // A command that is refused hands the session back as it was.

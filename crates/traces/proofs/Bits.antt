@@ -1,5 +1,5 @@
 -- Laws of a number and its bits.
-use Prim.Native.Nat.{ℕ, zero, suc, ◌+◌, ◌-◌, ◌*◌, ◌/◌, ◌%◌, ◌^◌, ◌≤◌, ◌<◌}
+use Prim.Native.Nat.{ℕ, zero, suc, ◌+◌, ◌*◌, ◌/◌, ◌%◌, ◌^◌, ◌≤◌, ◌<◌}
 use mathlib.Core.Path.{◌≡◌, refl, sym, ◌∙◌, ap, ap₂}
 use native.Mathlib.Omega.{arith}
 use native.Mathlib.Nat.{div-one, div-div-eq-div-mul, pow-succ', pow-le-pow_right}
@@ -42,23 +42,6 @@ bits_same f g (suc k) h =
 pub low_byte : (x : ℕ) → x % 256 ≡ bits (bit x) 8
 unfolding bits bit
 low_byte x = omega arith
-
-pub bits_none : (f : ℕ → ℕ) (k : ℕ) → k ≡ 0 → 0 ≡ bits f k
-unfolding bits
-bits_none f k e = rw e
-
--- one more bit below the others: twice the number, and the bit
-pub bits_more : (f : ℕ → ℕ) (i k : ℕ) → 2 * bits (λ j. f (i + 1 + j)) k + f i ≡ bits (λ j. f (i + j)) (suc k)
-unfolding bits
-bits_more f i k =
-    let lowest : f (i + 0) ≡ f i = ap f (omega arith) in
-    let others : bits (λ j. f (i + suc j)) k ≡ bits (λ j. f (i + 1 + j)) k = bits_same _ _ k (λ j l. ap f (omega arith)) in
-    omega arith
-
-pub bits_whole : (f : ℕ → ℕ) (c n : ℕ) → c ≡ 0 → bits (λ j. f (c + j)) (n - c) ≡ bits f n
-bits_whole f c n e =
-    let all : n - c ≡ n = omega arith in
-    bits_same _ _ (n - c) (λ j low. let here : c + j ≡ j = omega arith in ap f here) ∙ ap (bits f) all
 
 pub bits_below : (f : ℕ → ℕ) → ((i : ℕ) → f i < 2) → (k : ℕ) → bits f k < 2 ^ k
 unfolding bits

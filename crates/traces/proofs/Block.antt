@@ -1,5 +1,5 @@
 -- The bytes of a block are those of its two halves, each made as one number.
-use Prim.Native.Nat.{ℕ, ◌+◌, ◌*◌, ◌/◌, ◌%◌, ◌^◌}
+use Prim.Native.Nat.{ℕ, ◌+◌, ◌*◌, ◌/◌, ◌%◌, ◌^◌, ◌≤◌}
 use mathlib.Core.Path.{◌≡◌, refl, sym, ◌∙◌, ap, ap₂}
 use mathlib.Core.Bool.{Bool, true, false}
 use mathlib.Core.List.{List, [], ◌∷◌, ◌++◌}
@@ -7,10 +7,10 @@ use native.Mathlib.Omega.{arith}
 use native.Mathlib.Nat.{div-one}
 use borrow.Rule.Slice.PartMut.{put_mid, post_of}
 use lib.Dec.{ltb}
-use lib.ListN.{length, get_or, drop}
+use lib.ListN.{length, get_or, take, drop}
 use borrow.Author.Tests.{ltb-true, ltb-false}
 use Rattle.std.specs.Prelude.{if◌then◌else◌}
-use Rattle.std.proofs.lemmas.List.{drop-drop, drop_all}
+use Rattle.std.proofs.lemmas.List.{drop-drop, drop_all, get_or-take, length-take-le}
 use Rattle.std.specs.Int.{to_le_bytes, bytes_low_first}
 use mir.Syntax.{w64}
 use Rattle.logic.specs.Listed.{listed}
@@ -64,3 +64,17 @@ module _ (values : List ℕ) (count : ℕ) where
   block_turned lent long l h f g =
       let none : drop 8 (drop 8 lent) ≡ [] = drop-drop 8 8 lent ∙ drop_all 16 lent (omega arith) in
       rw (half_bytes 0 l f, half_bytes 1 h g, none)
+
+-- the values within the count alone make the block
+module _ (values : List ℕ) (count : ℕ) where
+  recorded_taken : (c : ℕ) (within : Bool) → ltb c count ≡ within
+      → (if within then get_or (take count values) c 0 else 0) ≡ (if within then get_or values c 0 else 0)
+  recorded_taken c true e = get_or-take count values c 0 (ltb-true c count e)
+  recorded_taken c false e = refl
+
+  pub turned_taken : count ≤ length values → turned (take count values) (length (take count values)) ≡ turned values count
+  unfolding turned turned_byte recorded
+  turned_taken long =
+      ap (turned (take count values)) (length-take-le count values long)
+      ∙ listed_same block_length _ _
+      (λ b low. bits_same _ _ 8 (λ i below. ap (λ (v : ℕ). bit v (b / 8)) (recorded_taken (8 * (b % 8) + i) (ltb (8 * (b % 8) + i) count) refl)))

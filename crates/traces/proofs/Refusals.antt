@@ -5,13 +5,10 @@ use mathlib.Core.Bool.{true}
 use mathlib.Core.List.{List}
 use lib.ListN.{length, get_or, take}
 use Rattle.std.proofs.lemmas.List.{get_or-take, length-take-le}
-use borrow.Author.Tests.{eqb-true, eq-eqb, le-leb, lt-leb, leb-true}
-use native.Mathlib.Omega.{arith}
-use Rattle.logic.specs.Test.{◌and◌}
-use mathlib.Core.Logic.{◌⊎◌, ⊎_elim}
+use borrow.Author.Tests.{eqb-true, eq-eqb, leb-true}
 use Rattle.logic.proofs.Tests.{and_true, and_left, and_right}
 use Rattle.std.specs.Prelude.{Result, Ok, Err}
-use Rattle.model.specs.Refusal.{Check, pass, fail, first, unless}
+use Rattle.model.specs.Refusal.{Check, pass, first}
 use Rattle.model.specs.Session.{same_lengths}
 use Rattle.model.proofs.Refusals.{first_left, first_stays, first_second, unless_true, unless_pass, below_pass}
 use Rattle.file_lines.specs.Answer.{Answers}
@@ -58,16 +55,6 @@ module _ (values block : List ℕ) where
     pub sizes_of : sizes_check values block count ≡ pass → Sizes
     unfolding sizes_check
     sizes_of e = sizes (unless_true _ 40 0 (first_left _ _ e))
-
-module _ (count : ℕ) where
-  pub count_wrong : (count ≡ 0) ⊎ ((count ≡ 0 → ⊥) × (most_cycles < count)) → count_check count ≡ fail 52 0
-  unfolding count_check count_right ◌and◌ unless
-  count_wrong wrong =
-      ⊎_elim (λ z. rw z) (λ h. rw (le-leb 1 count (omega (arith, h.1)), lt-leb count most_cycles h.1)) wrong
-
-  pub count_pass : (count ≡ 0 → ⊥) → count ≤ most_cycles → count_check count ≡ pass
-  unfolding count_check count_right
-  count_pass some few = unless_pass _ 52 0 (and_true _ _ (le-leb 1 count (omega arith)) (le-leb count most_cycles few))
 
 -- a count that passed
 pub count_high : (count : ℕ) → count_check count ≡ pass → count ≤ most_cycles

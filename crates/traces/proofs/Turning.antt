@@ -3,7 +3,7 @@ use Prim.Native.Nat.{ℕ, zero, suc, ◌+◌, ◌*◌, ◌%◌, ◌^◌, ◌≤�
 use mathlib.Core.Path.{◌≡◌, refl, ◌∙◌, ap}
 use mathlib.Core.List.{List, [], ◌∷◌, reverse}
 use native.Mathlib.Omega.{arith}
-use lib.ListN.{length, get_or, take}
+use lib.ListN.{length, get_or}
 use denote.Param.Members.{Mut, Called}
 use native.Mathlib.Decide.{ℕ_discrete}
 use Rattle.std.specs.List.{fold}
@@ -11,9 +11,9 @@ use Rattle.std.specs.Array.{IsFromFnResultFrom, IsFromFnResult}
 use Rattle.logic.specs.Listed.{listed}
 use Rattle.logic.proofs.Listed.{is_listed}
 use Rattle.std.proofs.lemmas.List.Sums.{fold_push}
-use Rattle.std.proofs.lemmas.List.{get_or-take, length-take-le, reverse-append}
+use Rattle.std.proofs.lemmas.List.{reverse-append}
 use Rattle.traces.specs.Bits.{bit, bits}
-use Rattle.traces.proofs.Bits.{bit_small, bits_same, bits_fit}
+use Rattle.traces.proofs.Bits.{bit_small, bits_fit}
 
 module _ (half : ℕ) where
   -- one value more, below the others: in 64 bits, of which a shift drops what is above
@@ -27,15 +27,6 @@ module _ (half : ℕ) where
       let rest = bits_folded xs (omega arith) in
       let fits = bits_fit (λ c. bit (get_or xs c 0) half) (λ c. bit_small _ half) (length xs) (omega arith) in
       ap (fold bit_more 0) (reverse-append (x ∷ []) xs) ∙ fold_push bit_more 0 (reverse xs) x ∙ ap (λ (n : ℕ). bit_more n x) rest ∙ omega arith
-
--- the values within the count
-pub half_folded : (half : ℕ) (values : List ℕ) (count : ℕ) → count ≤ length values → count ≤ 64
-    → fold (bit_more half) 0 (reverse (take count values)) ≡ bits (λ c. bit (get_or values c 0) half) count
-half_folded half values count long few =
-    let size : length (take count values) ≡ count = length-take-le count values long in
-    bits_folded half (take count values) (omega arith)
-    ∙ ap (bits (λ c. bit (get_or (take count values) c 0) half)) size
-    ∙ bits_same _ _ count (λ c low. ap (λ (v : ℕ). bit v half) (get_or-take count values c 0 low))
 
 -- an array made by `from_fn`, where each call gives what a function does
 module _ {F : Type 0} (g : Mut F (ℕ × Unit {0}) ℕ) (h : ℕ → ℕ) {f : F} (calls : (x y : ℕ) (q : F) → Called g f (x, tt) y q → (q ≡ f) × (y ≡ h x)) where

@@ -1,5 +1,5 @@
 -- The unused bits of a block, judged cycle by cycle from the count on.
-use Prim.Native.Nat.{ℕ, ◌+◌, ◌-◌, ◌≤◌, ◌<◌}
+use Prim.Native.Nat.{ℕ, ◌+◌, ◌-◌, ◌<◌}
 use mathlib.Core.Path.{◌≡◌, ◌∙◌}
 use mathlib.Core.Bool.{Bool, true}
 use mathlib.Core.List.{List}
@@ -15,10 +15,10 @@ use Rattle.logic.proofs.Tests.{or_left, or_right, all_true, all_at}
 use Rattle.traces.specs.Turned.{values_length, block_value, unused_clear}
 
 -- the tests of the cycles past the count are those of all, where a cycle within it passes
-pub unused_judged : (block : List ℕ) (count : ℕ) → count ≤ values_length
+pub unused_judged : (block : List ℕ) (count : ℕ)
     → list_all (λ c. eqb (block_value block c) 0) (range_with_len count (values_length - count)) ≡ unused_clear block count
 unfolding unused_clear ◌or◌
-unused_judged block count few = by_first clear (values_length - count) count ∙ same_test _ _ forth back
+unused_judged block count = by_first clear (values_length - count) count ∙ same_test _ _ forth back
   where
     clear : ℕ → Bool
     clear c = eqb (block_value block c) 0

@@ -3,7 +3,7 @@
 
 #![tactic(auto)]
 
-ghost use Rattle.std.specs.Prelude.{◌≡◌, ◌<◌, ◌≤◌, get_or, IfOk};
+ghost use Rattle.std.specs.Prelude.{◌≡◌, ◌<◌, ◌≤◌, get_or, IfOk, length};
 ghost use Rattle.file_lines.specs.Answer.{Answers};
 ghost use Rattle.session_answers.specs.Answers.{check_bits};
 ghost use Rattle.session_answers.specs.Leaves.{Leaves};
@@ -74,7 +74,7 @@ fn cycles_of(count: u32) -> Result<usize, TurnRefusal>
     ensures answers { Answers turn_refusal count (count_check count) result }
     ensures at_most { IfOk result (λ cycles. cycles ≤ most_cycles) }
 {
-    if count == 0 || MOST_CYCLES < count {
+    if !(1..=MOST_CYCLES).contains(&count) {
         return Err(TurnRefusal::WrongCount);
     }
     Ok(count as usize)
@@ -89,26 +89,26 @@ fn bit_at(byte: u8, i: usize) -> u8
     (byte >> i) % 2
 }
 
-// One half of a block as a number: the low bits of the values within the count, or the high ones, the earliest cycle lowest. From the
-// last cycle to the first, what is there is doubled, by a shift, which cannot overflow, and the cycle's bit is added: shifted to its place,
-// each bit takes longer. The count's bound is asked, here and below, as that of an index is.
-fn turned_half(values: &[u8; VALUES_BYTES], count: usize, half: usize) -> u64
-    requires { (count ≤ most_cycles) × (half < 2) }
-    ensures { result ≡ bits (λ c. bit (get_or values.now c 0) half) count }
+// One half of a block as a number: bit `half` of each value, the low one or the high one, the earliest cycle lowest. From the last cycle
+// to the first, what is there is doubled, by a shift, which cannot overflow, and the cycle's bit is added: shifted to its place, each bit
+// takes longer. That the cycles are at most 64 is asked, here and below, as the bound of an index is.
+fn turned_half(values: &[u8], half: usize) -> u64
+    requires { (length values.now ≤ most_cycles) × (half < 2) }
+    ensures { result ≡ bits (λ c. bit (get_or values.now c 0) half) (length values.now) }
 {
-    values[..count].iter().rev().fold(
+    values.iter().rev().fold(
         0,
         |number, &value| (number << 1) + u64::from(bit_at(value, half)),
     )
 }
 
-// The block of the values within the count.
-fn turn_all(values: &[u8; VALUES_BYTES], count: usize, block: &mut [u8; BLOCK_BYTES])
-    requires { count ≤ most_cycles }
-    ensures { block.new ≡ turned values.now count }
+// The block of these values, one a cycle.
+fn turn_all(values: &[u8], block: &mut [u8; BLOCK_BYTES])
+    requires { length values.now ≤ most_cycles }
+    ensures { block.new ≡ turned values.now (length values.now) }
 {
-    let low = turned_half(values, count, 0);
-    let high = turned_half(values, count, 1);
+    let low = turned_half(values, 0);
+    let high = turned_half(values, 1);
     block[..8].copy_from_slice(&low.to_le_bytes());
     block[8..].copy_from_slice(&high.to_le_bytes());
 }
@@ -121,13 +121,15 @@ fn turn_checked(values: &[u8], block: &mut [u8], count: u32) -> Result<(), TurnR
     // `as_mut_array` says, as `try_into` does not, what the slice holds in the end.
     let block = block.as_mut_array().ok_or(TurnRefusal::WrongLength)?;
     let count = cycles_of(count)?;
-    session_answers::check_recorded(&values[..count])?;
-    turn_all(values, count, block);
+    let recorded = &values[..count];
+    session_answers::check_recorded(recorded)?;
+    turn_all(recorded, block);
     Ok(())
 }
 
 // Turns the values of one signal into a block. Refused by 40, 52, 42, and then no byte of the block changes. Turning and turning back
-// share the test of the count; what they judge after it, and what they fill, differs.
+// share the test of the count; what they judge after it, and what they fill, differs. Values, block and count stay three parameters, no
+// struct: C lends one of the two buffers to be read and the other to be written, and turning back lends them the other way round.
 pub fn turn(values: &[u8], block: &mut [u8], count: u32) -> u64
     ensures answer { result ≡ check_bits (turn_check values.now block.old count) }
     ensures block { block.new ≡ left_after (turn_check values.now block.old count) (turned values.now count) block.old }
@@ -148,7 +150,6 @@ fn block_value(block: &[u8; BLOCK_BYTES], cycle: usize) -> u8
 
 // No bit past the count may be set.
 fn check_unused(block: &[u8; BLOCK_BYTES], count: usize) -> Result<(), TurnRefusal>
-    requires { count ≤ most_cycles }
     ensures { Answers turn_refusal (tt {0}) (unused_check block.now count) result }
 {
     if (count..VALUES_BYTES).all(|c| block_value(block, c) == 0) {
@@ -159,7 +160,6 @@ fn check_unused(block: &[u8; BLOCK_BYTES], count: usize) -> Result<(), TurnRefus
 
 // All values of a block: those of the cycles within the count, and 0 past it.
 fn turn_back_all(block: &[u8; BLOCK_BYTES], count: usize, values: &mut [u8; VALUES_BYTES])
-    requires { count ≤ most_cycles }
     ensures { values.new ≡ turned_back block.now count }
 {
     *values = array::from_fn(|cycle| value_back(block, count, cycle));

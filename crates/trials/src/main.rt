@@ -59,6 +59,7 @@ fn field_trial(rt: &impl Print, trial: u16, text: &[u8]) {
     print_line(rt, &[trial, u16::from(right)]);
 }
 
+// Each is a call of its own, at which its numbers are seen to be codes: of those in an array a loop would have to be told.
 fn gate_trials(rt: &impl Print) {
     gate_trial(rt, AND, SAME, 1, 1, 1, 1);
     gate_trial(rt, AND, SAME, 1, Z, 1, 1);
@@ -71,17 +72,15 @@ fn gate_trials(rt: &impl Print) {
     gate_trial(rt, MAJORITY, SAME, 1, U, 1, 0);
 }
 
+// The trials of fields are numbered from 1.
 fn field_trials(rt: &impl Print) {
-    field_trial(rt, 1, b"     0");
-    field_trial(rt, 2, b" 65535");
-    field_trial(rt, 3, b" 65536");
-    field_trial(rt, 4, b"     7");
-    field_trial(rt, 5, b"    07");
-    field_trial(rt, 6, b"    +7");
-    field_trial(rt, 7, b"     -");
-    field_trial(rt, 8, b"7     ");
-    field_trial(rt, 9, b"      ");
-    field_trial(rt, 10, b"    7");
+    let texts: [&[u8]; 10] = [
+        b"     0", b" 65535", b" 65536", b"     7", b"    07", b"    +7", b"     -", b"7     ",
+        b"      ", b"    7",
+    ];
+    for (trial, text) in (1..=10).zip(texts) {
+        field_trial(rt, trial, text);
+    }
 }
 
 fn main(rt: HostRuntime) {

@@ -20,7 +20,5 @@ pub fn store_word(bytes: &mut [u8], at: usize, number: u16)
     requires { at + 2 ≤ length bytes.old }
     ensures { bytes.new ≡ word_stored number at bytes.old }
 {
-    let [low, high] = number.to_le_bytes();
-    bytes[at] = low;
-    bytes[at + 1] = high;
+    bytes[at..at + 2].copy_from_slice(&number.to_le_bytes());
 }

@@ -27,12 +27,15 @@ pub fn write_field(out: &mut [u8], at: usize, n: u16)
     requires { at + 6 ≤ length out.old }
     ensures { out.new ≡ sets out.old at (field_text n) }
 {
-    out[at] = b' ';
-    out[at + 1] = column(n, 10000);
-    out[at + 2] = column(n, 1000);
-    out[at + 3] = column(n, 100);
-    out[at + 4] = column(n, 10);
-    out[at + 5] = column(n, 1);
+    let columns = [
+        b' ',
+        column(n, 10000),
+        column(n, 1000),
+        column(n, 100),
+        column(n, 10),
+        column(n, 1),
+    ];
+    out[at..at + 6].copy_from_slice(&columns);
 }
 
 // The line of some numbers, written at a place; the place after it.
@@ -41,11 +44,10 @@ pub fn write_line(out: &mut [u8], at: usize, numbers: &[u16]) -> usize
     ensures value { result ≡ at + line_length (length numbers.now) }
     ensures out_after { out.new ≡ sets out.old at (line_text numbers.now) }
 {
-    let mut place = at;
-    for &number in numbers {
-        write_field(out, place, number);
-        place += 6;
+    for (k, &number) in numbers.iter().enumerate() {
+        write_field(out, at + 6 * k, number);
     }
-    out[place] = b'\n';
-    place + 1
+    let end = at + 6 * numbers.len();
+    out[end] = b'\n';
+    end + 1
 }

@@ -10,11 +10,11 @@ table_of-table-requires c = schedules _ _ c.requires.checked c.requires.modfile_
 
 pub returns-clause-panel_after : goal.returns-clause-panel_after
 returns-clause-panel_after c =
-    rw (c.table_of-table.ensures, c.new-net.ensures) at c.load_panel.ensures ∙ panel_zeroth (bytes_of c.args.files.now) _ (rw c.new-net.ensures at c.load_values.ensures) c.requires.checked
+    rw (c.table_of-table.ensures, c.new-net.ensures) at c.load_panel.ensures ∙ panel_zeroth (bytes_of c.args.files.now) _ (rw c.new-net.ensures at c.load_values-values.ensures) c.requires.checked
 
 pub returns-clause-program_after : goal.returns-clause-program_after
 returns-clause-program_after c = rw c.table_of-table.ensures at c.load_program.ensures
 
 pub returns-clause-memory_after : goal.returns-clause-memory_after
 returns-clause-memory_after c =
-    rw c.table_of-table.ensures at c.load_memory.ensures ∙ opening_zeroth (bytes_of c.args.files.now) _ (rw c.new-net.ensures at c.load_values.ensures) c.requires.checked c.requires.modfile_value
+    rw c.table_of-table.ensures at c.load_memory.ensures ∙ opening_zeroth (bytes_of c.args.files.now) _ (rw c.new-net.ensures at c.load_values-values.ensures) c.requires.checked c.requires.modfile_value

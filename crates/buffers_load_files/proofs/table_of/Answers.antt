@@ -8,4 +8,5 @@ new-line-requires c = (omega arith, header_line c.requires)
 
 pub new-requires : goal.new-requires
 new-requires c =
-    lines_laid c.requires _ _ (rw (c.new-line.ensures.0, c.new-line.ensures.1) at c.number.ensures) (rw (c.new-line.ensures.0, c.new-line.ensures.1) at c.number-2.ensures)
+    let shape = rw (c.new-line.ensures.0, c.new-line.ensures.1) at c.of_line-shape.ensures in
+    lines_laid c.requires _ _ shape.0 shape.1

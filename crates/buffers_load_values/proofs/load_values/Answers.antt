@@ -10,21 +10,21 @@ use Rattle.buffers_load_values.proofs.load_values.Goals as goal
 use Rattle.buffers_load_values.proofs.load_values.Goals.{In-Some}
 
 -- a line of time 0
-gives : (c : In-Some) → GivenAt c.args.stim.bytes.now 0 c.loop-line.cursor.1.0 c.in-Some.line c.in-Some.next.line
+gives : (c : In-Some) → GivenAt c.args.stim.bytes.now 0 c.loop-line.cursor.line c.in-Some.line c.next_of.new.self.line
 gives c = given_at _ c.loop-line.invariant.same c.in-Some.ensures
 
 pub loop-line-init : goal.loop-line-init
 loop-line-init c =
     record {
       same = refl;
-      given = given_starts c.args.net.now.net.now c.args.stim.bytes.now _ _ _ (c.fill_by.ensures (undefined_to c.from-signals.result) (λ s x low q. search rules)) c.told-values
+      given = given_starts c.args.net.now.net.now c.args.stim.bytes.now _ _ _ (c.fill_by.ensures (undefined_to c.from-signals.result) (λ s x low q. search rules)) refl
           (c.from-signals.ensures ∙ c.signals.ensures.0);
     }
 
 pub returns : goal.returns
 returns c =
     given_ends _ _ (checked _ c.args.net.now.accepted) c.requires c.loop-line.invariant.given
-    (none_at c.loop-line.invariant.same c.in_default.ensures)
+    (none_at c.loop-line.invariant.same c.in_default.ensures.0)
 
 pub overflow_cast-values : goal.overflow_cast-values
 overflow_cast-values c =

@@ -8,9 +8,9 @@ use Rattle.buffers_load_values.proofs.load_values.Given as goal
 abbrev pub invariant-loop-line : goal.invariant-loop-line
 invariant-loop-line l =
     record {
-      same : l.cursor.0 ≡ l.stim;
-      given : GivenTo l.net.net.now l.stim.bytes.now l.cursor.1.0 l.values;
+      same : l.cursor.stimulus ≡ l.stim;
+      given : GivenTo l.net.net.now l.stim.bytes.now l.cursor.line l.values;
     }
 
 abbrev pub decreases-loop-line : goal.decreases-loop-line
-decreases-loop-line l = stim_count l.stim.bytes.now - l.cursor.1.0
+decreases-loop-line l = stim_count l.stim.bytes.now - l.cursor.line

@@ -12,12 +12,12 @@ use Rattle.charts.specs.Text.{page_text, printed_on}
 use Rattle.charts.proofs.Refusals.{ChartSizes, ChartCounts, lent_wrong, lent_pass, counts_right}
 use Rattle.std.specs.Array.{IsWholeChunk}
 use Rattle.charts.specs.Page.{page_length}
-use Rattle.charts.specs.declared.ChartRefusal.TheVariants.{WrongLength}
 use Rattle.charts.proofs.chart_checked.Goals as goal
 use Rattle.charts.proofs.chart_checked.Goals.{In_ok-page, In_ok-check_counts}
 
+-- the page is the whole slice that was lent
 whole : (c : In_ok-page) → IsWholeChunk c.args.page.now c.in_ok-page.page.now page_length
-whole c = array_lent c.as_mut_array.result (λ x. x.now) c.args.page.now page_length WrongLength c.as_mut_array.ensures.cases c.ok_or.ensures.value c.in_ok-page.was
+whole c = array_lent _ (λ x. x.now) _ _ _ c.as_mut_array.ensures.cases c.ok_or.ensures.value c.in_ok-page.was
 
 sizes : (c : In_ok-page) → ChartSizes c.args.signals.now c.args.values.now c.args.page.now
 sizes c =
@@ -49,7 +49,7 @@ returns-in_err-values c =
 pub returns-in_err-page : goal.returns-in_err-page
 unfolding chart_check
 returns-in_err-page c =
-    lent_refused c.as_mut_array.result (λ x. x.now) c.args.page.now page_length WrongLength c.as_mut_array.ensures.cases c.ok_or.ensures.value c.in_err-page.was (λ none. refused refl (first_stays _ _ (lent_wrong _ _ _ (λ s. none s.page_size)))) c.from_residual-in_err-page.ensures.1
+    lent_refused _ (λ x. x.now) _ _ _ c.as_mut_array.ensures.cases c.ok_or.ensures.value c.in_err-page.was (λ none. refused refl (first_stays _ _ (lent_wrong _ _ _ (λ s. none s.page_size)))) c.from_residual-in_err-page.ensures.1
 
 pub returns-in_err-check_counts : goal.returns-in_err-check_counts
 unfolding chart_check

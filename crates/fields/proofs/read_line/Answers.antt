@@ -1,8 +1,8 @@
 -- The fields are read one after the other (`fields_begin`, `fields_go_on`), up to one that is wrong (`fields_stop`); then byte 10 decides
--- (`fields_end`).
-use Rattle.std.proofs.Common.{arith, ◌≡◌, ◌+◌, ◌*◌, refl, sym, ap, ◌∙◌, Some}
+-- (`line_answered`).
+use Rattle.std.proofs.Common.{rules, refl, sym, ◌∙◌}
 use Rattle.fields.specs.Reading.{read_line}
-use Rattle.fields.proofs.Lines.{fields_begin, fields_stop, fields_go_on, fields_end}
+use Rattle.fields.proofs.Lines.{fields_begin, fields_stop, fields_go_on, line_answered}
 use Rattle.fields.proofs.read_line.Goals as goal
 
 pub loop-init : goal.loop-init
@@ -16,15 +16,6 @@ returns-in_err-next c =
 pub loop-preserved : goal.loop-preserved
 loop-preserved c = fields_go_on c.loop.invariant c.loop-test.true (sym c.read_field.ensures ∙ c.in_ok-next.was)
 
-pub returns-then-ends_line : goal.returns-then-ends_line
-unfolding read_line
-returns-then-ends_line c =
-    let end = fields_end c.loop.invariant c.loop-test.false c.ends_line.ensures ∙ c.if-ends_line.true in
-    let place : c.loop.place + 1 ≡ c.args.at + (6 * c.args.count + 1) = omega (arith, c.loop.invariant.few, c.loop.invariant.here) in
-    rw end (ap Some place)
-
-pub returns-else-ends_line : goal.returns-else-ends_line
-unfolding read_line
-returns-else-ends_line c =
-    let end = fields_end c.loop.invariant c.loop-test.false c.ends_line.ensures ∙ c.if-ends_line.false in
-    rw end
+pub returns : goal.returns
+returns c =
+    line_answered c.loop.invariant c.loop-test.false _ (c.then.ensures.variant ∙ c.ends_line.ensures) c.then.ensures.some (λ end e. search rules)

@@ -4,21 +4,17 @@ use borrow.Author.Rules.{rules}
 use Rattle.logic.specs.Test.{all}
 use Rattle.model.specs.Netlist.{network}
 use Rattle.model.specs.Module.{send_right, reception_right, operand_right}
-use Rattle.model.specs.ModuleFile.{module_of, placed, sending, receiving, operands}
+use Rattle.model.specs.ModuleFile.{module_of, sending, receiving, operands}
 use Rattle.file_lines.specs.Answer.{Answers}
 use Rattle.file_lines.proofs.Stages.{renamed, passes, after, stops, handed}
 use Rattle.file_mod_lines.specs.Answer.{mod_refusal}
 use Rattle.file_mod_lines.specs.declared.ModRefusal.TheVariants.{Send, Reception, WrongOperand}
-use Rattle.file_mod.proofs.Formed.{net_signals}
 use Rattle.file_mod.proofs.Mapped.{mapped}
 use Rattle.file_mod.proofs.Testing.{operands_each}
 use Rattle.file_mod.proofs.check_module.Goals as goal
-use Rattle.file_mod.proofs.check_module.Goals.{After-check_placements, After-map_err, After-map_err-2, After-map_err-3}
+use Rattle.file_mod.proofs.check_module.Goals.{After-map_err, After-map_err-2, After-map_err-3}
 
--- 22, 24, 25 and 23 of the module
-placements : (c : After-check_placements) → Answers mod_refusal (tt {0}) (placed (network c.args.net.now.net.now) (module_of c.args.table.now.modfile.now)) c.check_placements.result
-placements c = c.check_placements.ensures (network c.args.net.now.net.now) (net_signals c.args.net.now.net.now _ c.signals.ensures.0)
-
+-- 24, 25 and 23 of the module
 sends : (c : After-map_err) → Answers mod_refusal (tt {0}) (sending c.args.table.now.modfile.now) c.map_err.result
 unfolding sending
 sends c =
@@ -39,21 +35,21 @@ read c =
 
 pub returns-in_err-check_placements : goal.returns-in_err-check_placements
 returns-in_err-check_placements c =
-    handed c.from_residual.ensures.1 (stops (placements (goal.at.returns-in_err-check_placements c).After-check_placements) c.in_err-check_placements.was _)
+    handed c.from_residual.ensures.1 (stops c.check_placements.ensures c.in_err-check_placements.was _)
 
 pub returns-in_err-map_err : goal.returns-in_err-map_err
 returns-in_err-map_err c =
-    after (passes (placements (goal.at.returns-in_err-map_err c).After-check_placements) c.in_ok-check_placements.was)
+    after (passes c.check_placements.ensures c.in_ok-check_placements.was)
     (handed c.from_residual-in_err-map_err.ensures.1 (stops (sends (goal.at.returns-in_err-map_err c).After-map_err) c.in_err-map_err.was _))
 
 pub returns-in_err-map_err-2 : goal.returns-in_err-map_err-2
 returns-in_err-map_err-2 c =
-    after (passes (placements (goal.at.returns-in_err-map_err-2 c).After-check_placements) c.in_ok-check_placements.was)
+    after (passes c.check_placements.ensures c.in_ok-check_placements.was)
     (after (passes (sends (goal.at.returns-in_err-map_err-2 c).After-map_err) c.in_ok-map_err.was)
     (handed c.from_residual-in_err-map_err-2.ensures.1 (stops (receptions (goal.at.returns-in_err-map_err-2 c).After-map_err-2) c.in_err-map_err-2.was _)))
 
 pub returns : goal.returns
 returns c =
-    after (passes (placements (goal.at.returns c).After-check_placements) c.in_ok-check_placements.was)
+    after (passes c.check_placements.ensures c.in_ok-check_placements.was)
     (after (passes (sends (goal.at.returns c).After-map_err) c.in_ok-map_err.was)
     (after (passes (receptions (goal.at.returns c).After-map_err-2) c.in_ok-map_err-2.was) (read c)))

@@ -28,6 +28,5 @@ pub returns : goal.returns
 unfolding mod_header
 returns c =
     let laid = rw (c.new-line.ensures.0, c.new-line.ensures.1) at c.if-not-is_header_laid.ensures in
-    let processors = rw (c.new-line.ensures.0, c.new-line.ensures.1) at c.number.ensures in
-    let slots = rw (c.new-line.ensures.0, c.new-line.ensures.1) at c.number-2.ensures in
-    accepted (ap Ok (same_shape processors slots)) (test_goes_on _ 20 1 _ (line_right _ 0 14 c.read_line.ensures _ c.in_ok-ok_or.ensures.value) ∙ unless_pass _ 21 1 (sym laid))
+    let shape = rw (c.new-line.ensures.0, c.new-line.ensures.1) at c.of_line.ensures in
+    accepted (ap Ok (same_shape shape.0 shape.1)) (test_goes_on _ 20 1 _ (line_right _ 0 14 c.read_line.ensures _ c.in_ok-ok_or.ensures.value) ∙ unless_pass _ 21 1 (sym laid))

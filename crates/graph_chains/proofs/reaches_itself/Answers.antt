@@ -6,7 +6,7 @@ use Rattle.graph_chains.proofs.reaches_itself.Goals as goal
 
 pub loop-node-init : goal.loop-node-init
 loop-node-init c =
-    first_turn _ _ c.args.graph.now.is_graph.each _ _ (c.push_feeders.ensures ∙ ap (λ (at : State). pushed_all c.args.graph.now.edges.now at c.args.s) c.new-search.ensures)
+    first_turn _ _ c.args.graph.now.is_graph.each _ _ (c.push_feeders.ensures ∙ ap (λ (at : State). pushed_all c.args.graph.now.edges at c.args.s) c.new-search.ensures)
 
 pub push_feeders-requires-in-Some : goal.push_feeders-requires-in-Some
 push_feeders-requires-in-Some c = top_low c.loop-node.invariant c.in-Some.ensures

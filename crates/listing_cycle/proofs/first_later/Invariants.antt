@@ -5,12 +5,12 @@ use Rattle.model.specs.Stimulus.{stim_count}
 use Rattle.listing_cycle.proofs.Feeding.{Skipped}
 use Rattle.listing_cycle.proofs.first_later.Given as goal
 
-abbrev pub invariant-loop-next : goal.invariant-loop-next
-invariant-loop-next l =
+abbrev pub invariant-lines : goal.invariant-lines
+invariant-lines l =
     record {
-      same : l.cursor.0 ≡ l.stim;
-      skipped : Skipped l.stim.bytes.now l.cursor.1.0;
+      same : l.cursor.stimulus ≡ l.stim;
+      skipped : Skipped l.stim.bytes.now l.cursor.line;
     }
 
-abbrev pub decreases-loop-next : goal.decreases-loop-next
-decreases-loop-next l = stim_count l.stim.bytes.now - l.cursor.1.0
+abbrev pub decreases-lines : goal.decreases-lines
+decreases-lines l = stim_count l.stim.bytes.now - l.cursor.line

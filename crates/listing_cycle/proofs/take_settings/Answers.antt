@@ -1,16 +1,23 @@
 -- The settings so far are those of the lines passed.
-use mathlib.Core.Path.{refl, ◌∙◌}
+use Prim.Native.Nat.{◌<◌}
+use mathlib.Core.Path.{◌≡◌, refl, sym, subst, ◌∙◌}
 use mathlib.Core.List.{[]}
 use borrow.Author.Rules.{rules}
+use Rattle.model.specs.Stimulus.{stim_time, stim_count}
+use Rattle.file_stim.specs.declared.Cursor.{Cursor}
 use Rattle.file_stim.proofs.Steps.{given_at, none_at}
 use Rattle.listing_cycle.proofs.Feeding.{set_keeps, fed_starts, fed_signals, fed_more}
 use Rattle.listing_cycle.proofs.take_settings.Goals as goal
 
 pub loop-line-init : goal.loop-line-init
-loop-line-init c = record { same = refl; fed = fed_starts _ _ _ _ (search rules) c.args.cursor.within; same_numbers = (refl, refl) }
+loop-line-init c = record { same = refl; fed = fed_starts _ _ _ _ (search rules) c.args.cursor.now.within; same_numbers = (refl, refl) }
 
 pub returns-clause-no_more : goal.returns-clause-no_more
-returns-clause-no_more c = none_at c.loop-line.invariant.same c.in_default.ensures
+returns-clause-no_more c =
+    let none = c.in_default.ensures in
+    let stim = c.args.cursor.now.stimulus.bytes.now in
+    subst (λ (x : Cursor). x.line < stim_count stim → stim_time stim x.line ≡ c.args.time.0 → ⊥) (sym none.1)
+    (none_at c.loop-line.invariant.same none.0)
 
 pub set-told-requires : goal.set-told-requires
 set-told-requires c = fed_signals c.loop-line.invariant.fed c.requires.signals_high

@@ -1,10 +1,10 @@
 -- The line of a refusal fits, and is the one part of what is printed.
-use mathlib.Core.Path.{◌∙◌, ap}
+use mathlib.Core.Path.{sym, ◌∙◌, ap}
+use lib.Seq.{length-take-le}
 use native.Mathlib.Omega.{arith}
 use Rattle.file_checks.specs.Refused.{refused_text}
 use Rattle.file_checks.proofs.Refused.{refused_short}
 use Rattle.listing_print.specs.declared.Printed.{Printed}
-use Rattle.listing_print.proofs.Parts.{prefix_length}
 use Rattle.listing_print.proofs.Printing.{written, line_short, refusal_part, refusal_count, refusal_handed}
 use Rattle.listing_print.proofs.print_refusal.Goals as goal
 
@@ -13,7 +13,7 @@ slice_bounds-line-end g c = omega (arith, line_short _ _ c.write_refusal-length.
 
 pub slice_bounds-put-end : goal.slice_bounds-put-end
 slice_bounds-put-end g c =
-    prefix_length c.write_refusal-length.result c.write_refusal-length.new.out (omega (arith, line_short _ _ c.write_refusal-length.ensures.value))
+    sym (length-take-le c.write_refusal-length.result c.write_refusal-length.new.out (omega (arith, line_short _ _ c.write_refusal-length.ensures.value)))
 
 pub put-requires-clause-part_value : goal.put-requires-clause-part_value
 put-requires-clause-part_value g c =

@@ -1,5 +1,9 @@
 -- The three ways out: a wrong length, accepted files, a refused file. Each gives the check, and with it the answer and the bytes.
-use mathlib.Core.Path.{sym, ◌∙◌}
+use mathlib.Core.Path.{◌≡◌, sym, ◌∙◌}
+use Rattle.model.specs.Refusal.{pass}
+use Rattle.model.proofs.Refusals.{pass_not_fail}
+use Rattle.file_checks.proofs.Refused.{not_passed}
+use Rattle.session_opening.specs.Opened.{opening_check}
 use Rattle.model.specs.Files.{files_of}
 use Rattle.model.specs.Acceptance.{panel_limit}
 use Rattle.buffers_lengths.specs.Lengths.{lengths_lent}
@@ -8,7 +12,7 @@ use native.Mathlib.Omega.{arith}
 use Rattle.model.proofs.Checked.{files_checked}
 use Rattle.buffers_load_files.specs.Loaded.{panel_of, program_of, opening_bytes}
 use Rattle.buffers_lengths.proofs.Sizes.{same_sizes}
-use Rattle.session_opening.proofs.Outcome.{wrong_length, right_length, files_accepted, files_refused, accepted_bits, accepted_left}
+use Rattle.session_opening.proofs.Outcome.{wrong_length, right_length, files_accepted, files_refused, refused_left, accepted_bits, accepted_left}
 use Rattle.session_opening.proofs.open.Goals as goal
 
 pub returns-then-not-lengths_right : goal.returns-then-not-lengths_right
@@ -16,11 +20,12 @@ returns-then-not-lengths_right c =
     let files = files_of c.args.net.now c.args.modfile.now c.args.stim.now in
     let lent = lengths_lent c.args.panel.now c.args.program.now c.args.memory.now in
     let e = wrong_length panel_limit files lent (sym c.lengths_right.ensures ∙ c.if-not-lengths_right.true) in
+    let fails : opening_check panel_limit files lent ≡ pass → ⊥ = λ p. pass_not_fail (sym p ∙ e) in
     record {
       answer = rw e c.refuse.ensures.value;
-      panel = rw e (c.refuse.ensures.panel_after _);
-      program = rw e (c.refuse.ensures.program_after _);
-      memory = rw e (c.refuse.ensures.memory_after _);
+      panel = refused_left _ fails _ _ _ c.refuse.ensures.panel_after;
+      program = refused_left _ fails _ _ _ c.refuse.ensures.program_after;
+      memory = refused_left _ fails _ _ _ c.refuse.ensures.memory_after;
     }
 
 pub unwrap-requires : goal.unwrap-requires
@@ -46,13 +51,16 @@ load-requires c =
 
 pub returns-in-Err : goal.returns-in-Err
 returns-in-Err c =
+    let files = files_of c.args.net.now c.args.modfile.now c.args.stim.now in
+    let lent = lengths_lent c.args.panel.now c.args.program.now c.args.memory.now in
     let e = right_length _ _ _ (sym c.lengths_right.ensures ∙ c.if-not-lengths_right.false)
     ∙ files_refused _ _ c.check_files.ensures c.in-Err.is in
+    let fails : opening_check panel_limit files lent ≡ pass → ⊥ = λ p. not_passed _ (sym e ∙ p) in
     record {
       answer = rw e c.refuse-in-Err.ensures.value;
-      panel = rw e (c.refuse-in-Err.ensures.panel_after _);
-      program = rw e (c.refuse-in-Err.ensures.program_after _);
-      memory = rw e (c.refuse-in-Err.ensures.memory_after _);
+      panel = refused_left _ fails _ _ _ c.refuse-in-Err.ensures.panel_after;
+      program = refused_left _ fails _ _ _ c.refuse-in-Err.ensures.program_after;
+      memory = refused_left _ fails _ _ _ c.refuse-in-Err.ensures.memory_after;
     }
 
 pub returns : goal.returns

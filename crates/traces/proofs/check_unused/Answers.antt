@@ -1,5 +1,5 @@
 -- The cycles past the count are judged, which is the judgement of all (`unused_judged`).
-use Rattle.std.proofs.Common.{rules, ◌≡◌, refl, ◌∙◌, eqb, sym, arith}
+use Rattle.std.proofs.Common.{rules, ◌≡◌, refl, ◌∙◌, eqb, sym}
 use Rattle.std.proofs.lemmas.Iterator.{YieldsList-from_range}
 use Rattle.std.proofs.lemmas.Iterator.Search.{all_from_yields_List}
 use Rattle.model.specs.Refusal.{unless}
@@ -13,7 +13,7 @@ use Rattle.traces.proofs.check_unused.Goals.{After-all}
 judged : (c : After-all) → c.all.result ≡ unused_clear c.args.block.now c.args.count
 judged c =
     all_from_yields_List (λ k. eqb (block_value c.args.block.now k) 0) _ _ c.all.result c.all.ensures.ran (YieldsList-from_range c.args.count values_length _ refl refl) (λ x b q h. search rules)
-    ∙ unused_judged c.args.block.now c.args.count (omega (arith, c.requires))
+    ∙ unused_judged c.args.block.now c.args.count
 
 pub returns-then-all : goal.returns-then-all
 unfolding unused_check unless

@@ -6,12 +6,12 @@ use Rattle.std.specs.Array.{IsWholeChunk}
 use Rattle.traces.specs.Turned.{values_length, turned_back}
 use Rattle.traces.specs.Checks.{unused_check, turn_back_check}
 use Rattle.traces.proofs.Refusals.{Sizes, sizes_wrong, count_stops, count_passes}
-use Rattle.traces.specs.declared.TurnRefusal.TheVariants.{WrongLength}
 use Rattle.traces.proofs.turn_back_checked.Goals as goal
 use Rattle.traces.proofs.turn_back_checked.Goals.{In_ok-values, In_ok-count}
 
+-- the values are the whole slice that was lent
 whole : (c : In_ok-values) → IsWholeChunk c.args.values.now c.in_ok-values.values.now values_length
-whole c = array_lent c.as_mut_array.result (λ x. x.now) c.args.values.now values_length WrongLength c.as_mut_array.ensures.cases c.ok_or.ensures.value c.in_ok-values.was
+whole c = array_lent _ (λ x. x.now) _ _ _ c.as_mut_array.ensures.cases c.ok_or.ensures.value c.in_ok-values.was
 
 sized : (c : In_ok-values) → Sizes c.args.values.now c.args.block.now
 sized c = record { values_size = (whole c).long; block_size = c.in_ok-block.ensures.1.long }
@@ -26,7 +26,7 @@ returns-in_err-block c = leaves_lent (sizes_wrong _ _ _ (λ s. c.in_err-block.en
 pub returns-in_err-values : goal.returns-in_err-values
 unfolding turn_back_check
 returns-in_err-values c =
-    lent_refused c.as_mut_array.result (λ x. x.now) c.args.values.now values_length WrongLength c.as_mut_array.ensures.cases c.ok_or.ensures.value c.in_err-values.was (λ none. sizes_wrong _ _ _ (λ s. none s.values_size) _) c.from_residual-in_err-values.ensures.1
+    lent_refused _ (λ x. x.now) _ _ _ c.as_mut_array.ensures.cases c.ok_or.ensures.value c.in_err-values.was (λ none. sizes_wrong _ _ _ (λ s. none s.values_size) _) c.from_residual-in_err-values.ensures.1
 
 pub returns-in_err-count : goal.returns-in_err-count
 unfolding turn_back_check

@@ -11,14 +11,12 @@ use Rattle.buffers_load_memory.proofs.Opening.sent_value.Goals as goal
 
 pub returns-in_default : goal.returns-in_default
 returns-in_default c =
-    let none = no_sender_is _ (sym c.sender_at.ensures.value ∙ c.in_default.is) in
-    sym (nothing_sent (module_of c.args.self.now.table.now.modfile.now) (value_in c.args.self.now.values.now) _ _ _ refl (eqb-true _ _ none))
+    sym (nothing_sent (module_of c.args.self.now.table.now.modfile.now) (value_in c.args.self.now.values.now) _ _ _ refl (eqb-true _ _ (no_sender_is _ c.in_default.ensures)))
 
 pub returns : goal.returns
 returns c =
-    let from = sender_is _ _ (sym c.sender_at.ensures.value ∙ c.in-Some.is) in
-    let there = c.of_processor-from.ensures in
-    let send = rw (there.0, there.1) at c.send_at.ensures.value in
-    let location = c.location-location.ensures ∙ ap location_of send ∙ location_of_pair _ _ in
-    (rw (c.at.ensures.0, c.at.ensures.1, there.0) at c.local_value.ensures)
+    let received = c.in-Some.ensures in
+    let from = sender_is _ _ received.sender in
+    let location = c.location.ensures ∙ ap location_of received.sends ∙ location_of_pair _ _ in
+    (rw (c.at.ensures.0, c.at.ensures.1) at c.local_value.ensures)
     ∙ sym (something_sent (module_of c.args.self.now.table.now.modfile.now) (value_in c.args.self.now.values.now) _ _ _ (sym from.same) (λ e. eqb-false _ _ from.some (from.same ∙ e)) _ location)

@@ -1,23 +1,26 @@
 -- The invariant: the signals chosen before line k can be.
-use mathlib.Core.Path.{refl}
+use Rattle.std.proofs.Common.{rules, refl, ◌∙◌}
+use Rattle.logic.proofs.Judged.{connected}
+use Rattle.model.proofs.Refusals.{unless_pass}
 use Rattle.model.specs.Refusal.{first_below}
-use Rattle.file_lines.proofs.Lines.{lines_go_on, lines_stop, lines_end}
+use Rattle.file_lines.proofs.Lines.{test_fails, lines_go_on, lines_stop, lines_end}
 use Rattle.charts.specs.Checks.{signals_check}
-use Rattle.charts.proofs.Refusals.{signal_wrong, signal_right}
+use Rattle.charts.proofs.Refusals.{signal_judged}
 use Rattle.charts.proofs.Plot.check_signals.Goals as goal
 
 pub loop-k-init : goal.loop-k-init
 unfolding first_below
 loop-k-init c = refl
 
-pub returns-then-signal-eq0 : goal.returns-then-signal-eq0
+pub returns-then-not-contains : goal.returns-then-not-contains
 unfolding signals_check
-returns-then-signal-eq0 c =
-    lines_stop _ _ c.loop-k.invariant _ c.loop-k-test.true refl (signal_wrong _ c.loop-k.k c.word_at-signal.ensures c.then-signal-eq0.either)
+returns-then-not-contains c =
+    lines_stop _ _ c.loop-k.invariant _ c.loop-k-test.true refl
+    (signal_judged _ c.loop-k.k c.signal-signal.ensures ∙ test_fails _ 41 _ (search (rules, connected)))
 
 pub loop-k-preserved : goal.loop-k-preserved
 loop-k-preserved c =
-    lines_go_on _ _ c.loop-k.invariant (signal_right _ c.loop-k.k c.word_at-signal.ensures c.if-signal-eq0.false c.if-signal-gt-LAST_SIGNAL.false)
+    lines_go_on _ _ c.loop-k.invariant (signal_judged _ c.loop-k.k c.signal-signal.ensures ∙ unless_pass _ 41 _ (search (rules, connected)))
 
 pub returns : goal.returns
 unfolding signals_check

@@ -8,7 +8,7 @@ loop-k-init c = stored_starts _ _ _ _
 pub loop-k-preserved : goal.loop-k-preserved
 loop-k-preserved c =
     rows_more c.args.self.now.signals.now c.args.self.now.values.now _ c.args.self.now.cycles_high c.row.result.now c.loop-k.invariant c.loop-k-test.true
-    c.word_at-signal.ensures
+    c.signal.ensures
     c.row.ensures.size
     c.row.ensures.values
     c.write_row.ensures

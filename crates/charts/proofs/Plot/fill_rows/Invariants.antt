@@ -5,4 +5,4 @@ use Rattle.charts.proofs.Writing.{StoredUpTo}
 use Rattle.charts.proofs.Plot.fill_rows.Given as goal
 
 abbrev pub invariant-loop-k : goal.invariant-loop-k
-invariant-loop-k l = StoredUpTo l.initial.page line_bytes (chart_row l.signals l.self.values.now l.self.cycles) l.self.count l.k l.page
+invariant-loop-k l = StoredUpTo l.initial.page line_bytes (chart_row l.self.signals.now l.self.values.now l.self.cycles) l.self.count l.k l.page

@@ -1,10 +1,11 @@
 -- Column 13 is the processor received from, by the definition of the module; one that is received from is the module's (`sender_low`).
-use mathlib.Core.Path.{sym, ◌∙◌}
+use mathlib.Core.Path.{◌≡◌}
 use native.Mathlib.Omega.{arith}
-use borrow.Author.Tests.{eqb-false}
+use borrow.Author.Rules.{rules}
 use Rattle.model.specs.ModuleFile.{module_of}
+use Rattle.instruction.specs.Sender.{sender_numbered}
 use Rattle.file_mod_table.proofs.Slots.{line_within, sender_low, sender_small}
-use Rattle.file_mod_table.proofs.Senders.{sender_is}
+use Rattle.file_mod_table.proofs.Senders.{sender_within}
 use Rattle.file_mod_table.proofs.ModTable.sender_at.Goals as goal
 
 pub overflow_cast-column_at : goal.overflow_cast-column_at
@@ -14,6 +15,6 @@ overflow_cast-column_at c =
 pub returns-clause-within : goal.returns-clause-within
 unfolding module_of
 returns-clause-within c =
-    let from = sender_is _ _ (sym c.sender_numbered.ensures ∙ c.in_ok-processor.was) in
-    let low = sender_low _ _ _ _ (line_within c.args.self.now.laid c.requires) (λ e. eqb-false _ _ from.some (c.column_at.ensures ∙ e)) in
-    omega (arith, c.column_at.ensures, c.from.ensures, from.same, low, c.args.self.now.laid.sized.processors)
+    let line = line_within c.args.self.now.laid c.requires in
+    let value : c.map.result ≡ sender_numbered ((module_of c.args.self.now.modfile.now).sender c.args.place.processor c.args.place.slot.0) = search rules in
+    rw value (sender_within _ _ (λ d. omega (arith, sender_low _ _ _ _ line d, c.args.self.now.laid.sized.processors)))

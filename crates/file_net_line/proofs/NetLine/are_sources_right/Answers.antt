@@ -1,12 +1,9 @@
--- An input has no sources to judge (`sources_input`); for a gate the four decide (`sources_gate`).
+-- For a gate the four sources decide.
 use Rattle.std.proofs.Common.{rules, sym, ◌∙◌}
 use Rattle.model.specs.Netlist.{source_right}
 use Rattle.logic.proofs.Ranges.{all_in_range}
-use Rattle.file_net_line.proofs.Layouts.{sources_input, sources_gate}
+use Rattle.file_net_line.proofs.Layouts.{sources_gate}
 use Rattle.file_net_line.proofs.NetLine.are_sources_right.Goals as goal
-
-pub returns-then-eq : goal.returns-then-eq
-returns-then-eq c = c.if-eq.true ∙ sym (sources_input _ _ _ c.field.ensures c.try_from.ensures (search rules))
 
 pub returns-else-eq : goal.returns-else-eq
 returns-else-eq c =

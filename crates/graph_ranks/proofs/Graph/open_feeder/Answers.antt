@@ -7,7 +7,7 @@ use Rattle.graph_ranks.proofs.Graph.open_feeder.Goals as goal
 
 pub returns : goal.returns
 returns c =
-    let edges = c.args.self.now.edges.now in
+    let edges = c.args.self.now.edges in
     let ranks = c.args.ranks.now in
     let y = c.args.node in
     first_open edges ranks y _
