@@ -54,8 +54,8 @@ fn place_of(processor: usize, a: Operand) -> usize
     PROCESSOR_STRIDE * processor + part_base(a) + usize::from(a.location())
 }
 
-// The value at the location that an operand names. That every byte is a value is asked of the memory and not held by a type: a
-// run writes it between two fetches, and a value that holds it would be made for each.
+// The value at the location that an operand names. That every byte is a value is asked of the memory and not held by a type: a run
+// writes it between two fetches, and a value that holds it would be made for each.
 #[tactic(auto, using(crate::proofs::Fetched::fetched_there))]
 pub fn fetch(memory: &Memory, processor: usize, a: Operand) -> u8
     requires memory_bytes { MemoryBytes memory.now }

@@ -34,17 +34,6 @@ field_right l at n next e = go (is_field_at l at) refl e
         record { form = f; is = ap (λ (p : ℕ × ℕ). p.0) both; after = sym (ap (λ (p : ℕ × ℕ). p.1) both) }
     go false f q = absurd (let z : ◌≡◌ {A = ℕ} 0 1 = cc in omega arith)
 
-field_wrong : (l : List ℕ) (at : ℕ) → read_field l at ≡ None → is_field_at l at ≡ false
-unfolding read_field
-field_wrong l at e = go (is_field_at l at) e
-  where
-    found : Bool → Option (ℕ × ℕ)
-    found b = if b then Some (number_at l at, at + 6) else None
-
-    go : (b : Bool) → found b ≡ None → b ≡ false
-    go true q = absurd (let z : ◌≡◌ {A = ℕ} 0 1 = cc in omega arith)
-    go false q = refl
-
 field_is_some : (l : List ℕ) (at : ℕ) → is_some (read_field l at) ≡ is_field_at l at
 unfolding read_field
 field_is_some l at = go (is_field_at l at)
@@ -82,23 +71,7 @@ unfolding all
 fields_begin e = record { few = omega arith; here = omega arith; right = refl }
 
 module _ {l : List ℕ} {at n k place : ℕ} (read : FieldsRight l at n k place) where
-  pub fields_stop : k < n → read_field l place ≡ None → is_line_at l at n ≡ false
-  unfolding is_line_at ◌and◌
-  fields_stop h e = rw (all_fails (λ j. is_field_at l (at + 6 * j)) n k h (field_wrong l (at + 6 * k) (rw read.here at e)))
-
-  pub fields_go_on : k < n → {m next : ℕ} → read_field l place ≡ Some (m, next) → FieldsRight l at n (k + 1) next
-  fields_go_on h {m} {next} e =
-      let f = field_right l (at + 6 * k) m next (rw read.here at e) in
-      record {
-        few = omega arith;
-        here = omega (arith, f.after);
-        right = all_more (λ j. is_field_at l (at + 6 * j)) k read.right f.form;
-      }
-
-  pub fields_number : {m next : ℕ} → read_field l place ≡ Some (m, next) → m ≡ number_at l (at + 6 * k)
-  fields_number {m} {next} e = sym (field_right l (at + 6 * k) m next (rw read.here at e)).is
-
-  -- the same, of a field of which is asked alone whether it is right
+  -- the answer of the next field: it is right, and the line goes on, or it is not, and the line is not
   module _ {r : Option (ℕ × ℕ)} (field : r ≡ read_field l place) (wrong : Bool) (told : is_some r ≡ not wrong) where
     there : is_field_at l (at + 6 * k) ≡ not wrong
     there = rw read.here at (sym (field_is_some l place) ∙ ap is_some (sym field) ∙ told)
@@ -114,6 +87,19 @@ module _ {l : List ℕ} {at n k place : ℕ} (read : FieldsRight l at n k place)
           here = omega (arith, read.here);
           right = all_more (λ j. is_field_at l (at + 6 * j)) k read.right (there ∙ ap not e);
         }
+
+  -- the same, of a field whose number is taken
+  pub fields_stop : k < n → read_field l place ≡ None → is_line_at l at n ≡ false
+  fields_stop h e = fields_left (sym e) true refl h refl
+
+  pub fields_go_on : k < n → {m next : ℕ} → read_field l place ≡ Some (m, next) → FieldsRight l at n (k + 1) next
+  fields_go_on h {m} {next} e =
+      let f = field_right l (at + 6 * k) m next (rw read.here at e) in
+      let passed = fields_passed (sym e) false refl h refl in
+      record { few = passed.few; here = omega (arith, f.after); right = passed.right }
+
+  pub fields_number : {m next : ℕ} → read_field l place ≡ Some (m, next) → m ≡ number_at l (at + 6 * k)
+  fields_number {m} {next} e = sym (field_right l (at + 6 * k) m next (rw read.here at e)).is
 
   -- byte 10 decides, r being whether it stands there
   pub fields_end : n ≤ k → {r : Bool} → r ≡ eqb (get_or l place 0) newline → is_line_at l at n ≡ r

@@ -123,15 +123,15 @@ pub fn number_at(s: &[u8], at: usize) -> u16
     low_number(s, at) as u16
 }
 
-// A number of which 0 says that there is none.
+// A number, or none where it is 0.
 pub fn numbered(number: u16) -> Option<u16>
     ensures { result ≡ numbered number }
 {
     (number != 0).then_some(number)
 }
 
-// "zeros": `count` fields from a place on, which were read before and are right, are 0. A method of `Line`
-// would ask for their line, too, and so promise less.
+// "zeros": `count` fields from a place on, which were read before and are right, are 0. A method of `Line` would ask for
+// their line, too, and so promise less.
 pub fn zeros_at(s: &[u8], at: usize, count: usize) -> bool
     requires { (k : ℕ) → k < count → is_field_at s.now (at + 6 * k) ≡ true }
     ensures { result ≡ all count (λ k. eqb (number_at s.now (at + 6 * k)) 0) }

@@ -213,9 +213,9 @@ impl<'a> Cursor<'a> {
     pub fn next_of(&mut self, time: Cycle) -> Option<Line>
         ensures { StepOf self.old self.new time.0 result }
     {
-        if self.here().time != time {
-            return None;
-        }
-        self.next()
+        let mut after = *self;
+        let line = after.next().filter(|line| line.time == time)?;
+        *self = after;
+        Some(line)
     }
 }
