@@ -47,6 +47,14 @@ module _ {stim : List ℕ} (accepted : ∥ SomeAccepts stim ∥₁) where
       go (yes e) = rw e end.0
       go (no d) = (given (omega arith)).0
 
+  -- the end line is the one after those that are counted
+  pub end_at : {line : ℕ} → line ≤ stim_count stim → is_end stim line ≡ true → line ≡ stim_count stim
+  end_at {line} h e = go (ℕ_discrete line (stim_count stim))
+    where
+      go : Dec (line ≡ stim_count stim) → line ≡ stim_count stim
+      go (yes q) = q
+      go (no d) = absurd (true≢false (sym e ∙ (given (omega arith)).1))
+
   -- one that is not the end line stands before it
   pub before_end : {line : ℕ} → line ≤ stim_count stim → is_end stim line ≡ false → line < stim_count stim
   before_end {line} h e = go (ℕ_discrete line (stim_count stim))

@@ -66,11 +66,12 @@ pub fn translations() -> [u8; 28]
 }
 
 // The tables that gates are evaluated by: made once by a caller that evaluates often, and lent by reference. They are flat, "256 a
-// function" (02), and no arrays of arrays: `translate` and `apply` alone count their indices.
+// function" (02), and no arrays of arrays: `translate` and `apply` alone count their indices. A caller with right tables of its own may
+// lend these: the fields are public.
 #[derive(Drop)]
 pub struct TruthTables {
-    functions: [u8; 1280],
-    translations: [u8; 28],
+    pub functions: [u8; 1280],
+    pub translations: [u8; 28],
     pub ghost right: { GateTables functions translations },
 }
 
