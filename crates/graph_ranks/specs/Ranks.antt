@@ -29,6 +29,11 @@ pub record OpenAt (edges ranks : List ℕ) (y x : ℕ) : Type 0 where
   pub edge : Edge edges x y
   pub unranked : get_or ranks x 0 ≡ 0
 
+-- x is the last of the feeders of y that have no rank: those in later entries have one
+pub record LastOpen (edges ranks : List ℕ) (y x : ℕ) : Type 0 where
+  pub is_open : OpenAt edges ranks y x
+  pub later : (k : ℕ) → is_open.edge.index < k → k < 4 → 1 ≤ get_or edges (4 * y + k) 0 → 1 ≤ get_or ranks (get_or edges (4 * y + k) 0) 0
+
 -- a feeder of y that has no rank
 pub record OpenFeeder (edges ranks : List ℕ) (y : ℕ) : Type 0 where
   pub feeder : ℕ

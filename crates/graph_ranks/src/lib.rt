@@ -4,7 +4,7 @@
 
 ghost use Rattle.std.specs.Prelude.{◌≡◌, ◌+◌, ◌*◌, ◌<◌, ◌≤◌, [], length, get_or, MatchOption};
 ghost use Rattle.graph_ranks.specs.Graph.{IsGraph};
-ghost use Rattle.graph_ranks.specs.Ranks.{OpenFeeder, OpenAt, Ranked, RankAbove};
+ghost use Rattle.graph_ranks.specs.Ranks.{OpenFeeder, LastOpen, Ranked, RankAbove};
 ghost use Rattle.graph_ranks.specs.Descent.{Nodes, lined_up};
 
 mod stack;
@@ -98,13 +98,14 @@ impl Graph {
         some
     }
 
-    // A feeder of the node that has no rank.
+    // The last of the feeders of the node that have no rank. Which of them it is decides how many steps a graph with a loop takes, and no
+    // order is quick for all.
     fn open_feeder(&self, ranks: &[u16; PLACES], node: u16) -> Option<u16>
         requires node_le_size { node ≤ self.now.size }
-        ensures { MatchOption result (OpenFeeder self.now.edges ranks.now node → ⊥) (OpenAt self.now.edges ranks.now node) }
+        ensures { MatchOption result (OpenFeeder self.now.edges ranks.now node → ⊥) (LastOpen self.now.edges ranks.now node) }
     {
         (0..4)
-            .map(|j| self.feeder(node, j))
+            .map(|j| self.feeder(node, 3 - j))
             .find(|&feeder| feeder != 0 && ranks[usize::from(feeder)] == 0)
     }
 

@@ -1,4 +1,4 @@
--- `open_feeder` finds the first of the feeders that has no rank.
+-- `open_feeder` finds the first of the feeders that has no rank, from the last entry on.
 use Rattle.std.proofs.Common.{rules, refl}
 use borrow.Author.Tests.{tests}
 use Rattle.std.proofs.lemmas.Iterator.{YieldsList-from_range, YieldsList-from_map, first_from_find}
