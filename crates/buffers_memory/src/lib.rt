@@ -33,6 +33,9 @@ pub const SWITCH_EARLIER: usize = 2;
 
 pub const SWITCH_PRESENT: usize = 3;
 
+// With SWITCH_PRESENT, the parts of the present half, which a slot stores into.
+pub const LOCAL_PRESENT: usize = 1;
+
 // Where the part of an operand begins in its processor's bytes. The arms give constants only, so that no jump is made for them.
 fn part_base(a: Operand) -> usize
     ensures { (result ≡ part_stride * fetched_part a) × (result ≤ 1024) }

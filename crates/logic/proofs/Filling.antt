@@ -14,6 +14,9 @@ pub record Filled (f : ℕ → ℕ) (n k : ℕ) (l : List ℕ) : Type 0 where
   pub low : k ≤ n
   pub bytes : (i : ℕ) → i < k → get_or l i 0 ≡ f i
 
+pub fill_starts : (f : ℕ → ℕ) (n : ℕ) (l : List ℕ) → length l ≡ n → Filled f n 0 l
+fill_starts f n l e = record { size = e; low = omega arith; bytes = λ i h. absurd (omega arith) }
+
 module _ {f : ℕ → ℕ} {n k : ℕ} {l : List ℕ} (filled : Filled f n k l) where
   pub fill_more : (v : ℕ) → k < n → v ≡ f k → Filled f n (k + 1) (set l k v)
   fill_more v h e =

@@ -1,5 +1,6 @@
 pub mod Tests
 pub mod Judged
+pub mod Loops
 pub mod Any
 pub mod Totals
 pub mod Pigeon

@@ -92,6 +92,10 @@ module _ (p : ℕ → Bool) where
       go false q = refl
       go true q = absurd (true≢false (sym (all_at n q k l) ∙ e))
 
+  -- a count that has come to its end
+  pub all_ends : (n k : ℕ) → k ≤ n → n ≤ k → all k p ≡ true → all n p ≡ true
+  all_ends n k low high h = let e : k ≡ n = omega arith in subst (λ (m : ℕ). all m p ≡ true) e h
+
 -- tests that agree below n
 pub all_same : (p q : ℕ → Bool) (n : ℕ) → ((k : ℕ) → k < n → p k ≡ q k) → all n p ≡ all n q
 unfolding all

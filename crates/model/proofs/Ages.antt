@@ -13,7 +13,7 @@ use Rattle.model.specs.Module.{Module, At, local_earlier, local_present, switch_
 use Rattle.model.specs.Machine.{Memory, fetch, operand, slots, opening, after}
 use Rattle.model.proofs.Conditions.{Formed, Acyclic, Scheduled}
 use Rattle.model.proofs.Operands.{wanted, IsGate}
-use Rattle.model.proofs.Machine.{sent_some, slots_unstored, carries_past, operand_past}
+use Rattle.model.proofs.Machine.{sent_some, slots_unstored, young_stored, carries_past, operand_past}
 use Rattle.model.proofs.Keeping.{Kept, VAL_step, kept_after}
 
 -- the memory that slot i reads in the cycle with the inputs' values row, after the cycles of rows
@@ -41,7 +41,10 @@ module _ {n : Network} {m : Module} (formed : Formed n) (acyclic : Acyclic n) (o
           → fetch (memory_at n m given rows row i) p x k ≡ VAL n given (drop age (row ∷ rows)) s
       carries_VAL = kept_carries (kept_after formed acyclic ok given rows) row c a some
 
-      -- Its condition holds for all from cycle 2 on, and for the switch.
+      -- Its condition holds for all that is at most one cycle old, as a right operand is; for all from cycle 2 on; and for the switch.
+      pub young_VAL : age ≤ 1 → fetch (memory_at n m given rows row i) p x k ≡ VAL n given (drop age (row ∷ rows)) s
+      young_VAL young = carries_VAL (λ e above. absurd (young_stored c young e above))
+
       pub later_VAL : 1 ≤ length rows → fetch (memory_at n m given rows row i) p x k ≡ VAL n given (drop age (row ∷ rows)) s
       later_VAL ran = carries_VAL (λ e above. ran)
 

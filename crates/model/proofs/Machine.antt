@@ -15,6 +15,7 @@ use Rattle.model.specs.Network.{Network, Signal, input, unit_delay, rank_order}
 use Rattle.model.specs.Value.{value_of, evaluate, Step}
 use Rattle.model.specs.Module.{Module, At, Laid, local_earlier, local_present, switch_earlier, switch_present, no_sender, received, sent_part, sent_signal, send_right, Sent, present, earlier, Carries, local_earlier_lem, local_present_lem, local_not_yet, switch_earlier_lem, switch_present_lem, switch_not_yet}
 use Rattle.model.specs.Machine.{Memory, nothing, fetch, operand, result, sent, stored, slot, slots, alternate, cycle, opening}
+use Rattle.model.specs.Session.{ticks}
 use Rattle.model.proofs.Conditions.{Formed, Same, Scheduled}
 use Rattle.model.proofs.Operands.{wanted, IsGate, gate_no_input, Fits, unused, carried, differ, distinct, sent_received, operand_exact, send_full, send_stored, reception_sent}
 
@@ -255,6 +256,11 @@ module _ {n : Network} {m : Module} (ok : Scheduled n m) where
           rw (ne_eqb (m.sender p k) no_sender received)
           (value_some init _ some ∙ same age _ (signal_at_lem ok.laid (sent_at ok.laid a received) some))
 
+  -- the signal's place
+  pub at_place : {past : ℕ → ℕ → ℕ} {t : ℕ} {w : Memory} → Holds m past t w → (s : ℕ) (g : Signal n s)
+      → w.earlier_local (ok.places s g).processor (ok.places s g).slot ≡ past 0 s
+  at_place holds s g = at_signal holds (ok.places s g).at (ok.places s g).is g.low
+
 -- what two memories hold at each location of the module is related
 pub record Alike (R : ℕ → ℕ → Type 0) (m : Module) (w u : Memory) : Type 0 where
   pub earlier_local : (p k : ℕ) → At m p k → R (w.earlier_local p k) (u.earlier_local p k)
@@ -398,6 +404,11 @@ module _ {n : Network} {m : Module} (laid : Laid n m) where
 
   pub cycle_near : (row : ℕ → ℕ) {w u : Memory} → Near m w u → Near m (cycle n m row w) (cycle n m row u)
   cycle_near row = cycle_rows row row (λ s g k. refl)
+
+  pub ticks_near : (row : ℕ → ℕ) (j : ℕ) {w u : Memory} → Near m w u → Near m (ticks (cycle n m row) j w) (ticks (cycle n m row) j u)
+  unfolding ticks
+  ticks_near row zero near = near
+  ticks_near row (suc j) near = ticks_near row j (cycle_near row near)
 
 -- a memory of codes at the module's locations
 abbrev pub Small : Module → Memory → Type 0

@@ -88,6 +88,11 @@ module _ (n : Network) where
           rank_rule = rank_order_settles v formed acyclic;
         }
 
+    pub combined_next : (row before : ℕ → ℕ) → Same n (combined n row before) (next n row before)
+    combined_next row before =
+        step_unique n formed acyclic row before before (combined n row before) (next n row before)
+        (λ s g. refl) (combined_step row before) (next_step n formed acyclic row before)
+
     -- the procedures simulate VAL, whatever the inputs are
     pub simulated_VAL : (given : ℕ → ℕ) (rows : List (ℕ → ℕ)) → Same n (simulated n given rows) (VAL n given rows)
     unfolding simulated VAL

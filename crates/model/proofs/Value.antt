@@ -12,7 +12,9 @@ use lib.ListN.{length}
 use borrow.Author.Tests.{eqb-true, eq-eqb, ne_eqb}
 use Rattle.std.specs.Prelude.{if◌then◌else◌}
 use Rattle.gates.specs.Value.{Code}
+use Rattle.gates.proofs.Legal.{gate_code}
 use Rattle.model.specs.Network.{Network, Signal, input, rank_order}
+use Rattle.model.specs.Netlist.{network, codes}
 use Rattle.model.specs.Value.{value_of, evaluate, Step, start, Follows, driven, settle, next, VAL, history, FollowsAlways}
 use Rattle.model.proofs.Conditions.{Formed, Acyclic, Same}
 use Rattle.model.proofs.Chains.{Walk, here, on, walk_signal, walk_rank, no_long_walk}
@@ -217,6 +219,10 @@ pub data CodeRows (n : Network) : List (ℕ → ℕ) → Type 0 where
 -- every gate gives a code on codes
 abbrev pub CodeGates : Network → Type 0
 CodeGates n = (s a b c d : ℕ) → Code a → Code b → Code c → Code d → Code (n.gate s a b c d)
+
+pub network_code : (net : List ℕ) → CodeGates (network net)
+unfolding network
+network_code net s a b c d = gate_code (codes net s)
 
 value_of_code : (v : ℕ → ℕ) (x : ℕ) → (1 ≤ x → Code (v x)) → Code (value_of v x)
 value_of_code v zero h = omega arith

@@ -15,11 +15,29 @@ use Rattle.std.proofs.lemmas.Result.{err_from_is_err_and}
 use Rattle.model.specs.Refusal.{Check, pass, fail, first, unless, first_below}
 use Rattle.model.proofs.Refusals.{first_fail, unless_false, below_fail}
 use Rattle.file_lines.specs.Answer.{answered, Answers}
-use Rattle.file_lines.proofs.Stages.{refuses}
+use Rattle.file_lines.proofs.Stages.{passes, refuses}
 use Rattle.session_answers.specs.Answers.{answer_bits, check_bits}
 use Rattle.session_answers.specs.Leaves.{Leaves}
+use Rattle.session_answers.specs.Left.{left_after}
 use Rattle.session_answers.specs.Recorded.{recorded_check}
 use Rattle.session_answers.proofs.Left.{left_done, left_refused}
+
+-- A call from its check's answer: refused, it hands back the refusal's bits and leaves the bytes lent; else it hands back 0, and the new
+-- bytes.
+module _ {A E : Type 0} {refusal : E → Check} {x : A} {check : Check} {r : Result A E} (answers : Answers refusal x check r)
+    (bytes lent : List ℕ) where
+  pub call_refused : (r ≡ Ok x → ⊥) → {bits : ℕ} → bits ≡ check_bits (answered refusal r)
+      → (bits ≡ check_bits check) × (lent ≡ left_after check bytes lent)
+  call_refused other e = (
+    e ∙ ap check_bits answers.refuses,
+    sym (left_refused check bytes lent (λ p. other (answers.accepts p))),
+  )
+
+  pub call_done : r ≡ Ok x → {left : List ℕ} → left ≡ bytes → (0 ≡ check_bits check) × (left ≡ left_after check bytes lent)
+  unfolding check_bits answer_bits
+  call_done is e =
+      let p = passes answers is in
+      (rw p, e ∙ sym (left_done check bytes lent p))
 
 -- what r says, where it returns the refusal e, itself or by a `?`
 pub exit_told : {A E : Type 0} (refusal : E → Check) {e : E} (r : Result A E) → IsErrAnd r (λ x. x ≡ e) → answered refusal r ≡ refusal e
