@@ -4,6 +4,7 @@
 
 ghost use Rattle.std.specs.Prelude.{◌≡◌, ◌≤◌, length};
 ghost use Rattle.std.proofs.lemmas.List.Edits.{sets};
+ghost use Rattle.model.specs.Refusal.{Check, fail};
 ghost use Rattle.model.specs.Netlist.{network, net_check};
 ghost use Rattle.model.specs.ModuleFile.{mod_check};
 ghost use Rattle.model.specs.Stimulus.{stim_check, stim_count};
@@ -113,18 +114,48 @@ pub fn check_files(files: &FileBytes) -> Result<(), FileRefusal>
     Ok(())
 }
 
-// "prints one line of two fields, number and returned value": nothing where the files are accepted, which is promised, too, so that an
-// answer is taken and not a refusal alone.
+// A refusal that one line of two fields tells.
+pub trait Printable {
+    // What the line says, as a check.
+    ghost said: { Self → Check };
+
+    // Its number and what it returns, a field each.
+    fn fields(self) -> (u8, u16)
+        ensures { said self ≡ fail result.0 result.1 };
+}
+
 // What is returned is told in 32 bits, as the session's calls return signals of 32; what a file returns is a line or a signal below 65536,
 // which is proved here. So by `as`: no `From` has this conversion, and `TryFrom` has an error that cannot happen.
-pub fn write_refusal(answer: Result<(), FileRefusal>, out: &mut [u8]) -> usize
+impl Printable for FileRefusal {
+    ghost use Rattle.file_checks.specs.Answer.{file_refusal};
+
+    ghost said = { file_refusal };
+
+    fn fields(self) -> (u8, u16) {
+        let (number, returned) = self.told();
+        (number, returned as u16)
+    }
+}
+
+// Any number with any returned value.
+impl Printable for (u8, u16) {
+    ghost said = { λ told. fail told.0 told.1 };
+
+    fn fields(self) -> (u8, u16) {
+        (self.0, self.1)
+    }
+}
+
+// "prints one line of two fields, number and returned value": nothing where the files are accepted, which is promised, too, so that an
+// answer is taken and not a refusal alone.
+pub fn write_refusal<R: Printable>(answer: Result<(), R>, out: &mut [u8]) -> usize
     requires { 13 ≤ length out.old }
-    ensures value { result ≡ length (refused_text (answered file_refusal answer)) }
-    ensures out_after { out.new ≡ sets out.old 0 (refused_text (answered file_refusal answer)) }
+    ensures value { result ≡ length (refused_text (answered R.said answer)) }
+    ensures out_after { out.new ≡ sets out.old 0 (refused_text (answered R.said answer)) }
 {
     let Err(refusal) = answer else {
         return 0;
     };
-    let (number, returned) = refusal.told();
-    writing::write_line(out, 0, &[u16::from(number), returned as u16])
+    let (number, returned) = refusal.fields();
+    writing::write_line(out, 0, &[u16::from(number), returned])
 }

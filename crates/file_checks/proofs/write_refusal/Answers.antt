@@ -7,10 +7,10 @@ use Rattle.file_checks.proofs.write_refusal.Goals as goal
 
 pub returns : goal.returns
 unfolding refused_text refusal_line
-returns c =
-    rw (c.in-Err.is, c.told-number.ensures)
+returns g c =
+    rw (c.in-Err.is, c.fields-number.ensures)
     (record { value = c.write_line.ensures.value ∙ sym (length_line _); out_after = rw (← c.from.ensures) c.write_line.ensures.out_after })
 
 pub returns-in_default : goal.returns-in_default
 unfolding refused_text
-returns-in_default c = rw c.in_default.is (record { value = refl; out_after = refl })
+returns-in_default g c = rw c.in_default.is (record { value = refl; out_after = refl })
