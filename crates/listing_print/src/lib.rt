@@ -75,7 +75,9 @@ pub fn print_refusal(
     printed.put(rt, files, &line[..length])
 }
 
-// The listing, piece by piece, until one can not be written. The tables of the gates are made once and lent to every step.
+// The listing, piece by piece, until one can not be written. The tables of the gates are made once and lent to every step. Its buffers
+// stand in a frame of its own: inlined into `main`, they would stand above the arrays of the checks, which are done with by then.
+#[inline(never)]
 pub fn print_listing(
     rt: &impl Print,
     files: &FileBytes,
