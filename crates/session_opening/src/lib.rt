@@ -55,21 +55,24 @@ pub fn open(
         return refuse(CallRefusal::WrongLength, panel, program, memory);
     }
     let files = FileBytes { net, modfile, stim };
-    if let Err(refusal) = file_checks::check_files(&files) {
-        return refuse(refusal, panel, program, memory);
-    }
-    buffers_load::load(
-        &files,
-        panel.as_mut_array().unwrap(),
-        program.as_mut_array().unwrap(),
-        memory.as_mut_array().unwrap(),
-    );
-    0
+    let Err(refusal) = file_checks::check_files(&files) else {
+        buffers_load::load(
+            &files,
+            panel.as_mut_array().unwrap(),
+            program.as_mut_array().unwrap(),
+            memory.as_mut_array().unwrap(),
+        );
+        return 0;
+    };
+    refuse(refusal, panel, program, memory)
 }
 
 // The check of the three files alone, in the opening's bits: 0 where they are accepted, else the refusal.
 pub fn check(net: &[u8], modfile: &[u8], stim: &[u8]) -> u64
     ensures answer { result ≡ check_bits (file_check panel_limit (files_of net.now modfile.now stim.now)) }
 {
-    session_answers::check_bits(file_checks::check_files(&FileBytes { net, modfile, stim }))
+    let Err(refusal) = file_checks::check_files(&FileBytes { net, modfile, stim }) else {
+        return 0;
+    };
+    session_answers::check_bits(Err(refusal))
 }

@@ -49,22 +49,8 @@ load-requires c =
       stim_value = stim_accepted 4096 _ e;
     }
 
-pub returns-in-Err : goal.returns-in-Err
-returns-in-Err c =
-    let files = files_of c.args.net.now c.args.modfile.now c.args.stim.now in
-    let lent = lengths_lent c.args.panel.now c.args.program.now c.args.memory.now in
-    let e = right_length _ _ _ (sym c.lengths_right.ensures ∙ c.if-not-lengths_right.false)
-    ∙ files_refused _ _ c.check_files.ensures c.in-Err.is in
-    let fails : opening_check panel_limit files lent ≡ pass → ⊥ = λ p. not_passed _ (sym e ∙ p) in
-    record {
-      answer = rw e c.refuse-in-Err.ensures.value;
-      panel = refused_left _ fails _ _ _ c.refuse-in-Err.ensures.panel_after;
-      program = refused_left _ fails _ _ _ c.refuse-in-Err.ensures.program_after;
-      memory = refused_left _ fails _ _ _ c.refuse-in-Err.ensures.memory_after;
-    }
-
-pub returns : goal.returns
-returns c =
+pub returns-in_default : goal.returns-in_default
+returns-in_default c =
     let files = files_of c.args.net.now c.args.modfile.now c.args.stim.now in
     let e = right_length _ _ _ (sym c.lengths_right.ensures ∙ c.if-not-lengths_right.false)
     ∙ files_accepted _ _ c.check_files.ensures c.in_default.is in
@@ -73,4 +59,18 @@ returns c =
       panel = accepted_left e _ (panel_of files) _ c.load.ensures.panel_after;
       program = accepted_left e _ (program_of files) _ c.load.ensures.program_after;
       memory = accepted_left e _ (opening_bytes files) _ c.load.ensures.memory_after;
+    }
+
+pub returns : goal.returns
+returns c =
+    let files = files_of c.args.net.now c.args.modfile.now c.args.stim.now in
+    let lent = lengths_lent c.args.panel.now c.args.program.now c.args.memory.now in
+    let e = right_length _ _ _ (sym c.lengths_right.ensures ∙ c.if-not-lengths_right.false)
+    ∙ files_refused _ _ c.check_files.ensures c.in-Err.is in
+    let fails : opening_check panel_limit files lent ≡ pass → ⊥ = λ p. not_passed _ (sym e ∙ p) in
+    record {
+      answer = rw e c.refuse-2.ensures.value;
+      panel = refused_left _ fails _ _ _ c.refuse-2.ensures.panel_after;
+      program = refused_left _ fails _ _ _ c.refuse-2.ensures.program_after;
+      memory = refused_left _ fails _ _ _ c.refuse-2.ensures.memory_after;
     }
