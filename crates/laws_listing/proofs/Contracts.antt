@@ -6,15 +6,18 @@ use mathlib.Core.List.{List, ◌∷◌}
 use lib.ListN.{length, take}
 use lib.Seq.{sets}
 use contract.Lifetimes.{Lfts}
+use denote.RattleType.{RattleType}
+use denote.Param.Laws.{Laws}
 use denote.Triple.Clauses.{AtExit}
+use mir.Syntax.{Dict}
 use borrow.Fn.Kinds.{Dens, res_t, ended_of}
 use Rattle.model.specs.Files.{Files}
 use Rattle.file_bytes.specs.Bytes.{bytes_of}
 use Rattle.clock.specs.declared.Cycle.{Cycle}
 use Rattle.file_lines.specs.Answer.{answered}
-use Rattle.file_checks.specs.Answer.{file_refusal}
 use Rattle.listing.specs.declared.Lister.{Lister}
 use Rattle.listing_cycle.specs.Changes.{piece_length}
+use Rattle.file_checks.specs.declared.Printable.{Ghosts}
 use Rattle.file_checks.specs.Refused.{refused_text}
 use Rattle.listing.specs.Pieces.{piece_count}
 use Rattle.listing.specs.Standing.{Stands}
@@ -47,7 +50,9 @@ pub counts : {files : Files} {k : ℕ} {panel program memory shown : List ℕ} (
     → Stands files k l panel program memory shown → count ≡ piece_count files
 counts κs a count left told e s = told ∙ ap (λ (x : Cycle). x.0 + 2) (sym e) ∙ ap (λ (x : ℕ). x + 2) s.end
 
--- a refusal's text
-pub refusal_written : (κs : Lfts 1) (a : Dens κs refusal-ps) (n : ℕ) (left : AtExit (ended_of 1 refusal-ps refusal-r) κs) → RefusalTells κs a n left
-    → (n ≡ length (refused_text (answered file_refusal a.0))) × (left.1.0.now ≡ sets a.1.0.now 0 (refused_text (answered file_refusal a.0)))
-refusal_written κs a n left told = told
+-- the text of a refusal, of whatever kind R is
+module _ (R : RattleType) (laws : Laws R) (g : Ghosts R.Denot) (d : Dict) where
+  pub refusal_written : (κs : Lfts 2) (a : Dens κs (refusal-ps R laws)) (n : ℕ) (left : AtExit (ended_of 2 (refusal-ps R laws) (refusal-r R laws)) κs)
+      → RefusalTells R laws g d κs a n left
+      → (n ≡ length (refused_text (answered g.said a.0))) × (left.1.0.now ≡ sets a.1.0.now 0 (refused_text (answered g.said a.0)))
+  refusal_written κs a n left told = told
