@@ -32,13 +32,13 @@ pub unwrap-requires : goal.unwrap-requires
 unwrap-requires c =
     c.as_mut_array.ensures.variant.1 (same_sizes _ _ _ (sym c.lengths_right.ensures ∙ c.if-not-lengths_right.false)).panel_size
 
-pub unwrap-requires-2 : goal.unwrap-requires-2
-unwrap-requires-2 c =
-    c.as_mut_array-2.ensures.variant.1 (same_sizes _ _ _ (sym c.lengths_right.ensures ∙ c.if-not-lengths_right.false)).program_size
+pub unwrap-requires-in_default : goal.unwrap-requires-in_default
+unwrap-requires-in_default c =
+    c.as_mut_array-in_default.ensures.variant.1 (same_sizes _ _ _ (sym c.lengths_right.ensures ∙ c.if-not-lengths_right.false)).program_size
 
-pub unwrap-requires-3 : goal.unwrap-requires-3
-unwrap-requires-3 c =
-    c.as_mut_array-3.ensures.variant.1 (same_sizes _ _ _ (sym c.lengths_right.ensures ∙ c.if-not-lengths_right.false)).memory_size
+pub unwrap-requires-in_default-2 : goal.unwrap-requires-in_default-2
+unwrap-requires-in_default-2 c =
+    c.as_mut_array-in_default-2.ensures.variant.1 (same_sizes _ _ _ (sym c.lengths_right.ensures ∙ c.if-not-lengths_right.false)).memory_size
 
 pub load-requires : goal.load-requires
 load-requires c =
