@@ -4,7 +4,7 @@ use mathlib.Core.Path.{◌≡◌, refl, sym, ◌∙◌, ap}
 use mathlib.Core.List.{List, [], ◌∷◌, ◌++◌, flat_map, append_assoc, append-nil}
 use native.Mathlib.Omega.{arith}
 use native.Mathlib.Nat.{add-zero}
-use native.Mathlib.Numerals.{add-one}
+use native.Mathlib.Numerals.{add-one, towards_suc}
 use lib.ListN.{length, get_or, take, drop, set, length-append}
 use lib.Seq.{sets, sets-eq, take-suc, take-length, length-take-le}
 use borrow.Rule.Slice.PartMut.{put_mid}
@@ -23,6 +23,13 @@ pub columns_text : (n a b c d e : ℕ) → n ≤ 65535 → a ≡ column_of n 100
     → e ≡ column_of n 1 → 32 ∷ a ∷ b ∷ c ∷ d ∷ e ∷ [] ≡ field_text n
 unfolding field_text
 columns_text n a b c d e h p q r s t = rw (p, q, r, s, t, column_first n h)
+
+-- the stores of a field's columns
+pub field_stored : (l : List ℕ) (at n a b c d e : ℕ) → n ≤ 65535 → a ≡ column_of n 10000 → b ≡ column_of n 1000
+    → c ≡ column_of n 100 → d ≡ column_of n 10 → e ≡ column_of n 1
+    → set (set (set (set (set (set l at 32) (at + 1) a) (at + 2) b) (at + 3) c) (at + 4) d) (at + 5) e ≡ sets l at (field_text n)
+unfolding field_text
+field_stored l at n a b c d e h p q r s t = rw (p, q, r, s, t, column_first n h) (simp towards_suc)
 
 -- a part of a buffer, written whole
 pub put_sets : (l xs : List ℕ) (at k : ℕ) → k ≡ length xs → at + k ≤ length l → put_mid at k l xs ≡ sets l at xs
